@@ -4,7 +4,7 @@ use Prim.Native.Nat.{ℕ, zero, suc, _+_, _≤_, _<_, max, compare}
 use native.Mathlib.Omega.{arith}
 use mathlib.Core.Path.{_≡_, refl, sym, ap, ap₂, _∙_}
 use mathlib.Core.Bool.{Bool, true, false, _&&_, cond, not}
-use mathlib.Core.List.{List, [], _∷_}
+use mathlib.Core.List.{List, [], _∷_, _++_}
 use mathlib.Core.Option.{Option, none, some}
 use lib.ListN.{length, replicate, length-replicate}
 use lib.Dec.{leb, ltb, eqb}
@@ -12,7 +12,7 @@ use borrow.Author.Tests.{le-leb, leb-true, eq-eqb}
 use Rattle.paper.specs.Lists.{all, total, rises, holdAll, isEmpty, join}
 use Rattle.paper.specs.Keys.{Bytes, octets, Version, cmpVersion}
 use Rattle.paper.specs.Runs.{Run, isRun, runSize}
-use Rattle.paper.specs.Image.{Verdict, good, broken, foreign, verdict, isWhole, storable}
+use Rattle.paper.specs.Image.{bigEndian, mark, recordBytes, recordsBytes, imageOf, Verdict, good, broken, foreign, verdict, isWhole, storable}
 use Rattle.paper.specs.History.{cmpCommit}
 use Rattle.paper.specs.Refusals.{Refusal, Try, stop, go, must, _>>=_, _>>_}
 use Rattle.paper.specs.Settings.{Settings, inRanges, longest, mostNumber, mostRuns, stateLength}
@@ -21,16 +21,40 @@ use Rattle.paper.specs.Sound.{soundKey, soundValue, soundVersion, soundR
 use Rattle.paper.specs.Calls.{takeRun, openRuns, opened, openStore}
 use Rattle.paper.proofs.Bools.{and-left, and-right, and-intro}
 use Rattle.paper.proofs.Alls.{all-head, all-tail}
-use Rattle.paper.proofs.ImageBack.{verdict-read, length-image}
+use Rattle.paper.proofs.ImageBack.{octets-left, octets-right, verdict-read, length-image}
 use Rattle.paper.proofs.SoundLaws.{Rules, sounds}
+
+-- a version as an image of bytes can hold it
+fitVersion : Version → Bool
+fitVersion v = storable v && (octets (v .key) && octets (v .value))
 
 -- a run as an image can hold it
 fitRun : Run → Bool
-fitRun r = isWhole r && all storable r
+fitRun r = isWhole r && all fitVersion r
 
-fits : (r : Run) → isWhole r ≡ true → all storable r ≡ true → fitRun r ≡ true
+fits : (r : Run) → isWhole r ≡ true → all fitVersion r ≡ true → fitRun r ≡ true
 unfolding fitRun
 fits r p q = and-intro p q
+
+-- the keys and values in bytes are bytes
+versions-fit : (r : Run) → all storable r ≡ true → octets (recordsBytes r) ≡ true → all fitVersion r ≡ true
+unfolding all recordsBytes recordBytes fitVersion
+versions-fit [] h o = refl
+versions-fit (v ∷ vs) h o =
+    let a : Bytes = bigEndian 2 (length (v .key)) in
+    let c : Bytes = bigEndian 8 (v .time) in
+    let d : Bytes = bigEndian 2 (length (v .value)) in
+    let one = octets-left (recordBytes v) (recordsBytes vs) o in
+    let two = octets-right a (v .key ++ (c ++ (d ++ v .value))) one in
+    let three = octets-right d (v .value) (octets-right c (d ++ v .value) (octets-right (v .key) (c ++ (d ++ v .value)) two)) in
+    and-intro (and-intro (and-left (storable v) (all storable vs) h) (and-intro (octets-left (v .key) (c ++ (d ++ v .value)) two) three))
+    (versions-fit vs (and-right (storable v) (all storable vs) h) (octets-right (recordBytes v) (recordsBytes vs) o))
+
+image-fits : (r : Run) → all storable r ≡ true → octets (imageOf r) ≡ true → all fitVersion r ≡ true
+unfolding imageOf
+image-fits r h o =
+    let n : Bytes = bigEndian 4 (length r) in
+    versions-fit r h (octets-right n (recordsBytes r) (octets-right (bigEndian 2 1) (n ++ recordsBytes r) (octets-right mark (bigEndian 2 1 ++ (n ++ recordsBytes r)) o)))
 
 -- ---- steps of an opening that went through
 go-same : {A : Type 0} (a b : A) → go a ≡ go b → a ≡ b
@@ -70,30 +94,37 @@ runs-read n (i ∷ is) runs o e =
         → (all fitRun runs ≡ true) × (total length (i ∷ is) ≡ areaSize runs) × (length runs ≡ length (i ∷ is))
     here i is runs r rs o v w j =
         let u = verdict-read i r o v in (
-          ap (all fitRun) (sym j) ∙ and-intro (fits r (u .1) (u .2)) (w .0),
+          ap (all fitRun) (sym j) ∙ and-intro (fits r (u .1) (image-fits r (u .2) (ap octets (sym (u .0)) ∙ o))) (w .0),
           ap₂ (λ (m k : ℕ). m + k) (ap (λ (l : Bytes). length l) (u .0) ∙ length-image r) (w .1) ∙ ap (total imageSize) j,
           ap (λ (l : List Run). length l) (sym j) ∙ ap suc (w .2),
         )
 
 -- ---- runs at the opening clock
-versions-sound : (c : ℕ) (r : Run) → latest r ≤ c → all (λ v. not (isEmpty (v .key))) r ≡ true → all storable r ≡ true → all (soundVersion c) r ≡ true
-unfolding latest all soundVersion soundKey soundValue storable
-versions-sound c [] l k h = refl
-versions-sound c (v ∷ vs) l k h =
-    let s : storable v ≡ true = and-left (storable v) (all storable vs) h in
+version-fit : (c : ℕ) (v : Version) → v .time ≤ c → not (isEmpty (v .key)) ≡ true → fitVersion v ≡ true → soundVersion c v ≡ true
+unfolding fitVersion soundVersion soundKey soundValue storable
+version-fit c v l k h =
+    let s : storable v ≡ true = and-left (storable v) (octets (v .key) && octets (v .value)) h in
+    let b = and-right (storable v) (octets (v .key) && octets (v .value)) h in
     let q = and-left (leb (length (v .key)) longest && leb (length (v .value)) longest) (leb (v .time) mostNumber) s in
     and-intro
-    (and-intro
-    (and-intro (and-intro (and-left (not (isEmpty (v .key))) (all (λ w. not (isEmpty (w .key))) vs) k) (and-left (leb (length (v .key)) longest) (leb (length (v .value)) longest) q)) (and-right (leb (length (v .key)) longest) (leb (length (v .value)) longest) q))
-    (le-leb (v .time) c (omega arith)))
-    (versions-sound c vs (omega arith) (and-right (not (isEmpty (v .key))) (all (λ w. not (isEmpty (w .key))) vs) k) (and-right (storable v) (all storable vs) h))
+    (and-intro (and-intro k (and-intro (and-left (leb (length (v .key)) longest) (leb (length (v .value)) longest) q) (and-left (octets (v .key)) (octets (v .value)) b)))
+    (and-intro (and-right (leb (length (v .key)) longest) (leb (length (v .value)) longest) q) (and-right (octets (v .key)) (octets (v .value)) b)))
+    (le-leb (v .time) c l)
+
+versions-sound : (c : ℕ) (r : Run) → latest r ≤ c → all (λ v. not (isEmpty (v .key))) r ≡ true → all fitVersion r ≡ true → all (soundVersion c) r ≡ true
+unfolding latest all
+versions-sound c [] l k h = refl
+versions-sound c (v ∷ vs) l k h =
+    and-intro
+    (version-fit c v (omega arith) (and-left (not (isEmpty (v .key))) (all (λ w. not (isEmpty (w .key))) vs) k) (and-left (fitVersion v) (all fitVersion vs) h))
+    (versions-sound c vs (omega arith) (and-right (not (isEmpty (v .key))) (all (λ w. not (isEmpty (w .key))) vs) k) (and-right (fitVersion v) (all fitVersion vs) h))
 
 run-sound : (c : ℕ) (r : Run) → latest r ≤ c → fitRun r ≡ true → soundRun c r ≡ true
 unfolding fitRun isWhole soundRun
 run-sound c r l h =
-    let w = and-left (isWhole r) (all storable r) h in
+    let w = and-left (isWhole r) (all fitVersion r) h in
     and-intro (and-left (isRun r) (all (λ v. not (isEmpty (v .key))) r) w)
-    (versions-sound c r l (and-right (isRun r) (all (λ v. not (isEmpty (v .key))) r) w) (and-right (isWhole r) (all storable r) h))
+    (versions-sound c r l (and-right (isRun r) (all (λ v. not (isEmpty (v .key))) r) w) (and-right (isWhole r) (all fitVersion r) h))
 
 runs-sound : (c : ℕ) (rs : List Run) → latestOf rs ≤ c → all fitRun rs ≡ true → all (soundRun c) rs ≡ true
 unfolding latestOf all
@@ -101,20 +132,25 @@ runs-sound c [] l h = refl
 runs-sound c (r ∷ rs) l h =
     and-intro (run-sound c r (omega arith) (and-left (fitRun r) (all fitRun rs) h)) (runs-sound c rs (omega arith) (and-right (fitRun r) (all fitRun rs) h))
 
-latest-fits : (r : Run) → all storable r ≡ true → latest r ≤ mostNumber
-unfolding latest all storable
+version-time : (v : Version) → fitVersion v ≡ true → v .time ≤ mostNumber
+unfolding fitVersion storable
+version-time v h =
+    leb-true (v .time) mostNumber
+    (and-right (leb (length (v .key)) longest && leb (length (v .value)) longest) (leb (v .time) mostNumber) (and-left (storable v) (octets (v .key) && octets (v .value)) h))
+
+latest-fits : (r : Run) → all fitVersion r ≡ true → latest r ≤ mostNumber
+unfolding latest all
 latest-fits [] h = omega arith
 latest-fits (v ∷ vs) h =
-    let s : storable v ≡ true = and-left (storable v) (all storable vs) h in
-    let t = leb-true (v .time) mostNumber (and-right (leb (length (v .key)) longest && leb (length (v .value)) longest) (leb (v .time) mostNumber) s) in
-    let u = latest-fits vs (and-right (storable v) (all storable vs) h) in
+    let t = version-time v (and-left (fitVersion v) (all fitVersion vs) h) in
+    let u = latest-fits vs (and-right (fitVersion v) (all fitVersion vs) h) in
     omega arith
 
 latestOf-fits : (rs : List Run) → all fitRun rs ≡ true → latestOf rs ≤ mostNumber
 unfolding latestOf all fitRun
 latestOf-fits [] h = omega arith
 latestOf-fits (r ∷ rs) h =
-    let t = latest-fits r (and-right (isWhole r) (all storable r) (and-left (fitRun r) (all fitRun rs) h)) in
+    let t = latest-fits r (and-right (isWhole r) (all fitVersion r) (and-left (fitRun r) (all fitRun rs) h)) in
     let u = latestOf-fits rs (and-right (fitRun r) (all fitRun rs) h) in
     omega arith
 

@@ -14,13 +14,13 @@ use Rattle.paper.specs.Seen.{visible, ownWrite, seen}
 use Rattle.paper.specs.Settings.{Settings}
 use Rattle.paper.specs.Refusals.{go}
 use Rattle.paper.specs.Store.{Txn, Store, versionsOf}
-use Rattle.paper.specs.Calls.{Reply, Call, called, openRuns, opened, openStore, replyNumber}
-use Rattle.serial.specs.Trace.{Event, event, trace, after}
+use Rattle.paper.specs.Calls.{Reply, Call, called, openRuns, opened, openStore, replyNumber, ofBytes}
+use Rattle.serial.specs.Trace.{Event, event, trace, after, opensAnew, onOneStore}
 use Rattle.serial.specs.Plain.{Plain}
 use Rattle.serial.specs.Line.{Accepted, acceptedIn, placeOf, lined, lineFrom, line, actsOf}
 use Rattle.serial.specs.Serial.{contents, Serial}
 use Rattle.serial.proofs.Places.{find-nobody}
-use Rattle.serial.proofs.Steps.{step-called, bind-go, must-go}
+use Rattle.serial.proofs.Steps.{step-called, one-store, bind-go, must-go}
 use Rattle.serial.proofs.Worlds.{after-later}
 use Rattle.serial.proofs.Along.{Along, stop, along-stands, along-alone, along-carried}
 use Rattle.serial.proofs.Quiet.{quiet}
@@ -35,18 +35,18 @@ abbrev worldOf : Store → ℕ → Plain
 worldOf s q k = visible k q (versionsOf s)
 
 -- a store has the world of what it becomes
-world-after : (cs : List Call) (s : Store) (opening : ℕ) → World (worldOf (after called s cs)) opening s
-world-after cs s opening = record { same = λ q k h. sym (after-later cs s .same q k h) }
+world-after : (cs : List Call) (s : Store) (from : ℕ) → onOneStore cs ≡ true → World (worldOf (after called s cs)) from s
+world-after cs s from o = record { same = λ q k h. sym (after-later cs s o .same q k h) }
 
--- last: the store in the end; whole: all events
-module _ (last : Store) (whole : List Event) (opening : ℕ) where
-  along-all : (cs : List Call) (s : Store) (past : List Event) (line : List Accepted) → after called s cs ≡ last → past ++ trace called s cs ≡ whole
-      → Inv (worldOf last) opening s past line → Along (worldOf last) opening (lineFrom line (acceptedIn whole (trace called s cs))) (last .clock)
+-- last: the store in the end; whole: all events; from: the opening clock
+module _ (last : Store) (whole : List Event) (from : ℕ) where
+  along-all : (cs : List Call) (s : Store) (past : List Event) (line : List Accepted) → onOneStore cs ≡ true → after called s cs ≡ last → past ++ trace called s cs ≡ whole
+      → Inv (worldOf last) from s past line → Along (worldOf last) from (lineFrom line (acceptedIn whole (trace called s cs))) (last .clock)
   unfolding after trace acceptedIn lineFrom
-  along-all [] s past line f e i = subst (λ (z : Store). Along (worldOf last) opening line (z .clock)) f (i .along)
-  along-all (c ∷ cs) s past line f e i =
+  along-all [] s past line o f e i = subst (λ (z : Store). Along (worldOf last) from line (z .clock)) f (i .along)
+  along-all (c ∷ cs) s past line o f e i =
       rw (next .adds (acceptedIn whole (trace called s′ cs)))
-      (along-all cs s′ (past ++ (event c r ∷ [])) (next .line′) f (append-assoc past (event c r ∷ []) (trace called s′ cs) ∙ e) (next .inv))
+      (along-all cs s′ (past ++ (event c r ∷ [])) (next .line′) (m .1) f (append-assoc past (event c r ∷ []) (trace called s′ cs) ∙ e) (next .inv))
     where
       s′ : Store
       s′ = called s c .store
@@ -54,15 +54,18 @@ module _ (last : Store) (whole : List Event) (opening : ℕ) where
       r : Reply
       r = called s c .reply
 
-      next : Next (worldOf last) opening whole past c r s′ line
+      m : (opensAnew c ≡ false) × (onOneStore cs ≡ true)
+      m = one-store c cs o
+
+      next : Next (worldOf last) from whole past c r s′ line
       next =
-          step-inv (worldOf last) opening whole past (trace called s′ cs) line (step-called s c)
-          (subst (λ z. World (worldOf z) opening s) f (world-after (c ∷ cs) s opening))
-          (subst (λ z. World (worldOf z) opening s′) f (world-after cs s′ opening))
-          (sym e) (λ h q. quiet h cs s′ q) i
+          step-inv (worldOf last) from whole past (trace called s′ cs) line (step-called s c (m .0))
+          (subst (λ z. World (worldOf z) from s) f (world-after (c ∷ cs) s from o))
+          (subst (λ z. World (worldOf z) from s′) f (world-after cs s′ from (m .1)))
+          (sym e) (λ h q. quiet h cs s′ (m .1) q) i
 
 -- ---- from an opened store on
-module _ (st : Settings) (runs : List Run) (mode : st .serializable ≡ true) (cs : List Call) where
+module _ (st : Settings) (runs : List Run) (mode : st .serializable ≡ true) (cs : List Call) (one : onOneStore cs ≡ true) where
   start : Store
   start = opened st runs
 
@@ -85,11 +88,11 @@ module _ (st : Settings) (runs : List Run) (mode : st .serializable ≡ true) (c
 
   along-line : Along (worldOf last) (start .clock) (lineFrom [] (acceptedIn (trace called start cs) (trace called start cs))) (last .clock)
   unfolding last
-  along-line = along-all last (trace called start cs) (start .clock) cs start [] [] refl refl starts
+  along-line = along-all last (trace called start cs) (start .clock) cs start [] [] one refl refl starts
 
   first-world : contents start ≡ worldOf last (start .clock)
   unfolding contents seen ownWrite last
-  first-world = fun-ext (λ k. sym (after-later cs start .same (start .clock) k (omega arith)))
+  first-world = fun-ext (λ k. sym (after-later cs start one .same (start .clock) k (omega arith)))
 
   last-world : contents last ≡ worldOf last (last .clock)
   unfolding contents seen ownWrite
@@ -115,17 +118,17 @@ opened-runs st images room s e =
     let d = c .1 in
     (runs, cc)
 
--- demand 3
+-- Demand 3: 'from a freshly opened serializable store, after any calls on it save an accepted opening anew, refused ones included'
 pub serial : (st : Settings) (images : List Bytes) (room : ℕ) (s : Store) → openStore st images room ≡ go s → st .serializable ≡ true
-    → (cs : List Call) → Serial called s cs
-serial st images room s e mode cs =
+    → (cs : List Call) → onOneStore cs ≡ true → Serial called s cs
+serial st images room s e mode cs one =
     let (runs, same) = opened-runs st images room s e in
-    subst (λ (z : Store). Serial called z cs) same (serial-opened st runs mode cs)
+    subst (λ (z : Store). Serial called z cs) same (serial-opened st runs mode cs one)
 
--- and on the way no call answers 9, if the images are bytes
+-- and no call after an accepted opening answers 9, another opening among them
 pub opened-never-nine : (st : Settings) (images : List Bytes) (room : ℕ) (s : Store) → all octets images ≡ true → openStore st images room ≡ go s
-    → (cs : List Call) → Every (λ (e : Event). replyNumber (e .reply) ≡ 9 → ⊥) (trace called s cs)
-opened-never-nine st images room s b e cs = never-nine cs s (opened-sound st images room s b e)
+    → (cs : List Call) → all ofBytes cs ≡ true → Every (λ (e : Event). replyNumber (e .reply) ≡ 9 → ⊥) (trace called s cs)
+opened-never-nine st images room s b e cs o = never-nine cs s o (opened-sound st images room s b e)
 
 -- the line has the accepted transactions and no others, each as often: any sum over them is the same
 lined-total : (f : Accepted → ℕ) (a : Accepted) (l : List Accepted) → total f (lined a l) ≡ f a + total f l
