@@ -1,0 +1,1 @@
+// The layout of the lent state: definitions in specs/, their laws in proofs/.

@@ -1,0 +1,77 @@
+use lib.ListN.{length-set}
+use Rattle.raw.proofs.Moves.{up-turn}
+use Rattle.raw.proofs.Over.{over-none}
+use Rattle.raw.specs.Bytes.{over, part}
+use borrow.Author.Needs.{needs}
+use native.Mathlib.Omega.{arith}
+use mathlib.Core.Path.{_≡_, refl, ap, _∙_}
+use Prim.Native.Nat.{ℕ, _+_, _-_, _≤_}
+use lib.ListN.{length}
+use Rattle.raw.proofs.shift_up.Statement.{statement}
+use Rattle.raw.proofs.shift_up.Tie as tie
+
+abbrev Inv-loop : tie.InvT-loop
+Inv-loop s₀ from to n i₀ s i = (i ≤ n) × (length s ≡ length s₀) × (s ≡ over s₀ (to + i) (part s₀ (from + i) (n - i)))
+
+abbrev μ-loop : tie.MeasureT-loop
+μ-loop s₀ from to n i₀ s i = i
+
+loop-holds : tie.Need-loop-holds Inv-loop μ-loop
+loop-holds c =
+    let a = c .args in
+    let z : 0 ≡ a .n - a .n = omega arith in
+    (omega arith, refl, over-none _ _ ∙ ap (λ (j : ℕ). over (a .s .now) (a .to + a .n) (part (a .s .now) (a .from + a .n) j)) z)
+
+sub-i : tie.Need-sub-i Inv-loop μ-loop
+sub-i c = search needs
+
+add-x : tie.Need-add-x Inv-loop μ-loop
+add-x c = search needs
+
+slice-read-x : tie.Need-slice-read-x Inv-loop μ-loop
+slice-read-x c = search needs
+
+add-s : tie.Need-add-s Inv-loop μ-loop
+add-s c = search needs
+
+slice-write-s : tie.Need-slice-write-s Inv-loop μ-loop
+slice-write-s c = search needs
+
+loop-less : tie.Need-loop-less Inv-loop μ-loop
+loop-less c = search needs
+
+loop-again : tie.Need-loop-again Inv-loop μ-loop
+loop-again c =
+    let l = c .before .before .loop in
+    let a = c .before .before .before .args in
+    let p = c .before .before .before .pre in
+    (omega arith, simp length-set (l .inv .1), up-turn (a .s .now) (l .s) (a .from) (a .to) (a .n) (l .i) (p .0) (p .1) (c .before .loop-test .taken) (l .inv .0) (l .inv .2))
+
+same-length : tie.Need-same-length Inv-loop μ-loop
+same-length c = search needs
+
+returns : tie.Need-returns Inv-loop μ-loop
+returns c =
+    let l = c .before .loop in
+    let a = c .before .before .args in
+    let t : a .to + l .i ≡ a .to = omega arith in
+    let f : a .from + l .i ≡ a .from = omega arith in
+    let n : a .n - l .i ≡ a .n = omega arith in
+    l .inv .2 ∙ rw (t, f, n)
+
+pub shift-up-spec : {M : Type 1} → statement M
+shift-up-spec =
+    tie.close
+    (tie.spec
+    Inv-loop
+    μ-loop
+    loop-holds
+    sub-i
+    add-x
+    slice-read-x
+    add-s
+    slice-write-s
+    loop-less
+    loop-again
+    same-length
+    returns)
