@@ -1,8 +1,7 @@
 -- Every hash has 32 bits.
 -- Assumes nothing.
-use Prim.Native.Nat.{ℕ, _<_, _*_, _%_}
+use Prim.Native.Nat.{ℕ, _<_, _*_}
 use native.Mathlib.Nat.{mod-lt}
-use native.Mathlib.Omega.{arith}
 use mathlib.Core.Path.{_≡_}
 use mathlib.Core.Bool.{true}
 use mathlib.Core.List.{[], _∷_}

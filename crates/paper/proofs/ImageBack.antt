@@ -4,8 +4,8 @@ use Prim.Native.Nat.{ℕ, zero, suc, _+_, _*_, _/_, _%_, _^_, _<_, _≤_}
 use native.Mathlib.Nat.{mod-eq-of-lt, pow-succ', add-comm, add-mul-div-right, add-mul-mod-self-right, mul-le-mul-right}
 use native.Mathlib.Omega.{arith}
 use mathlib.Core.Path.{_≡_, refl, sym, ap, ap₂, _∙_, subst}
-use mathlib.Core.Bool.{Bool, true, false, _&&_, cond}
-use mathlib.Core.List.{List, [], _∷_, _++_, append-assoc, append-nil}
+use mathlib.Core.Bool.{Bool, true, false, cond}
+use mathlib.Core.List.{[], _∷_, _++_, append-assoc, append-nil}
 use mathlib.Core.Option.{Option, none, some, Option·none-ne-some, Option·some-injective}
 use lib.ListN.{length, take, drop, length-take, length-append, take-append-drop}
 use lib.Arith.{digits-div}
@@ -15,7 +15,7 @@ use Rattle.paper.specs.Lists.{all, total}
 use Rattle.paper.specs.Keys.{octets, Bytes, Version, cmpKey, sameKey}
 use Rattle.paper.specs.Runs.{Run, versionSize, runSize}
 use Rattle.paper.specs.Settings.{longest, mostNumber}
-use Rattle.paper.specs.Image.{bigEndian, recordBytes, recordsBytes, after, bytes, numberFrom, number, oneRecord, records, body, Verdict, good, broken, foreign, mark, imageOf, isWhole, judgeMark, judgeVersion, judgeRecords, verdict, storable}
+use Rattle.paper.specs.Image.{bigEndian, recordBytes, recordsBytes, after, bytes, numberFrom, number, oneRecord, records, body, good, broken, foreign, mark, imageOf, isWhole, judgeMark, judgeVersion, judgeRecords, verdict, storable}
 use Rattle.paper.proofs.Bools.{and-left, and-right, and-intro, isSame-eq}
 use Rattle.paper.proofs.Alls.{all-head, all-tail}
 use Rattle.paper.specs.Store.{imageSize}
@@ -23,7 +23,7 @@ use Rattle.paper.proofs.KeyOrder.{key-eq}
 use Rattle.paper.proofs.ImageLaws.{pow256-pos, length-bigEndian}
 
 -- ---- numbers
-number-more : (a : ℕ) (b : Bytes) → numberFrom a b ≡ a * 256 ^ length b + numberFrom 0 b
+pub number-more : (a : ℕ) (b : Bytes) → numberFrom a b ≡ a * 256 ^ length b + numberFrom 0 b
 unfolding numberFrom
 number-more a [] = omega arith
 number-more a (x ∷ xs) =

@@ -1,23 +1,22 @@
 -- Reading an image finds the run that it was made of.
 -- Assumes nothing.
 use Prim.Native.Nat.{ℕ, zero, suc, _+_, _*_, _/_, _%_, _^_, _<_, _≤_}
-use native.Mathlib.Nat.{mod-one, mod-eq-of-lt, pow-succ', zero-lt-suc, le-add-right, zero-mul, zero-add}
+use native.Mathlib.Nat.{mod-one, mod-eq-of-lt, pow-succ'}
 use native.Mathlib.Omega.{arith}
-use mathlib.Core.Path.{_≡_, refl, sym, ap, _∙_, subst}
-use mathlib.Core.Bool.{Bool, true, false, _&&_, cond}
-use mathlib.Core.List.{List, [], _∷_, _++_, append-assoc, append-nil}
-use mathlib.Core.Option.{Option, none, some}
-use lib.ListN.{length, take, drop, length-append}
+use mathlib.Core.Path.{_≡_, refl, ap, _∙_}
+use mathlib.Core.Bool.{true, _&&_}
+use mathlib.Core.List.{[], _∷_, _++_, append-assoc, append-nil}
+use mathlib.Core.Option.{Option, some}
+use lib.ListN.{length, length-append}
 use lib.Seq.{take-at, drop-at}
 use lib.Arith.{mod-mul}
-use lib.Pow.{pow-pos}
 use lib.Dec.{leb, lit<}
 use borrow.Author.Tests.{le-leb, leb-true}
 use Rattle.paper.specs.Lists.{all}
 use Rattle.paper.specs.Keys.{Bytes, Version, cmpKey}
 use Rattle.paper.specs.Runs.{Run}
 use Rattle.paper.specs.Settings.{longest, mostNumber}
-use Rattle.paper.specs.Image.{bigEndian, mark, recordBytes, recordsBytes, imageOf, Reading, after, _>>=_, give, bytes, numberFrom, number, oneRecord, records, body, Verdict, good, isWhole, judgeMark, judgeVersion, judgeRecords, verdict, storable}
+use Rattle.paper.specs.Image.{bigEndian, mark, recordBytes, recordsBytes, imageOf, bytes, numberFrom, number, oneRecord, records, body, good, isWhole, verdict, storable}
 use Rattle.paper.proofs.Bools.{and-left, and-right}
 
 pub pow256-pos : (w : ℕ) → zero < 256 ^ w

@@ -1,26 +1,24 @@
 -- An opened store is sound.
 -- Assumes nothing.
-use Prim.Native.Nat.{ℕ, zero, suc, _+_, _≤_, _<_, max, compare}
+use Prim.Native.Nat.{ℕ, zero, suc, _+_, _≤_}
 use native.Mathlib.Omega.{arith}
 use mathlib.Core.Path.{_≡_, refl, sym, ap, ap₂, _∙_}
 use mathlib.Core.Bool.{Bool, true, false, _&&_, cond, not}
 use mathlib.Core.List.{List, [], _∷_, _++_}
-use mathlib.Core.Option.{Option, none, some}
+use mathlib.Core.Option.{none}
 use lib.ListN.{length, replicate, length-replicate}
-use lib.Dec.{leb, ltb, eqb}
+use lib.Dec.{leb}
 use borrow.Author.Tests.{le-leb, leb-true, eq-eqb}
-use Rattle.paper.specs.Lists.{all, total, rises, holdAll, isEmpty, join}
-use Rattle.paper.specs.Keys.{Bytes, octets, Version, cmpVersion}
+use Rattle.paper.specs.Lists.{all, total, rises, holdAll, isEmpty}
+use Rattle.paper.specs.Keys.{Bytes, octets, Version}
 use Rattle.paper.specs.Runs.{Run, isRun, runSize}
 use Rattle.paper.specs.Image.{bigEndian, mark, recordBytes, recordsBytes, imageOf, Verdict, good, broken, foreign, verdict, isWhole, storable}
-use Rattle.paper.specs.History.{cmpCommit}
 use Rattle.paper.specs.Refusals.{Refusal, Try, stop, go, must, _>>=_, _>>_}
 use Rattle.paper.specs.Settings.{Settings, inRanges, longest, mostNumber, mostRuns, stateLength}
-use Rattle.paper.specs.Store.{Txn, Store, txnsOf, handlesOf, readNumbersOf, rowsOf, latest, latestOf, areaSize, imageSize, hashCount}
+use Rattle.paper.specs.Store.{Store, txnsOf, handlesOf, readNumbersOf, rowsOf, latest, latestOf, areaSize, imageSize, hashCount}
 use Rattle.paper.specs.Sound.{soundKey, soundValue, soundVersion, soundRun, soundTxn, distinct, sameRows, historyRules, runRules, sound}
 use Rattle.paper.specs.Calls.{takeRun, openRuns, opened, openStore}
 use Rattle.paper.proofs.Bools.{and-left, and-right, and-intro}
-use Rattle.paper.proofs.Alls.{all-head, all-tail}
 use Rattle.paper.proofs.ImageBack.{octets-left, octets-right, verdict-read, length-image}
 use Rattle.paper.proofs.SoundLaws.{Rules, sounds}
 

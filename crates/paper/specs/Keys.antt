@@ -1,7 +1,7 @@
 -- Keys and values are byte strings, and versions are key, timestamp and value.
 -- Assumes nothing.
 use Prim.Native.Nat.{ℕ, compare, Ordering, Ordering·lt, Ordering·eq, Ordering·gt}
-use mathlib.Core.Bool.{Bool, true, false}
+use mathlib.Core.Bool.{Bool}
 use mathlib.Core.List.{List, [], _∷_}
 use lib.Dec.{ltb}
 use Rattle.paper.specs.Lists.{thenBy, isSame, all}

@@ -1,8 +1,8 @@
 -- Room: each rule of 'no room means exactly' by a name of its own, as what must hold so that there is room.
 -- Assumes nothing.
-use Prim.Native.Nat.{ℕ}
-use mathlib.Core.Bool.{Bool, true, false, _&&_}
-use mathlib.Core.List.{List, [], _∷_}
+use Prim.Native.Nat.{ℕ, suc}
+use mathlib.Core.Bool.{Bool, _&&_}
+use mathlib.Core.List.{List}
 use mathlib.Core.Option.{Option, none, some}
 use lib.ListN.{length}
 use lib.Dec.{leb, ltb}
@@ -12,7 +12,7 @@ use Rattle.paper.specs.Runs.{Run, runSize}
 use Rattle.paper.specs.Readers.{Row, addReader}
 use Rattle.paper.specs.History.{Commit}
 use Rattle.paper.specs.Settings.{Settings, stateLength, mostRuns}
-use Rattle.paper.specs.Store.{Txn, Store, ownSize, areaSize, hashCount, txnsOf}
+use Rattle.paper.specs.Store.{Store, ownSize, areaSize, hashCount, txnsOf}
 
 -- 'no transaction place free': fewer transactions than places
 abbrev pub placeFree : Store → Bool

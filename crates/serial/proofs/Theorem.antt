@@ -17,7 +17,7 @@ use Rattle.paper.specs.Store.{Txn, Store, versionsOf}
 use Rattle.paper.specs.Calls.{Reply, Call, called, openRuns, opened, openStore, replyNumber, ofBytes}
 use Rattle.serial.specs.Trace.{Event, event, trace, after, opensAnew, onOneStore}
 use Rattle.serial.specs.Plain.{Plain}
-use Rattle.serial.specs.Line.{Accepted, acceptedIn, placeOf, lined, lineFrom, line, actsOf}
+use Rattle.serial.specs.Line.{Accepted, accepted, acceptedIn, placeOf, lined, lineFrom, line, actsOf}
 use Rattle.serial.specs.Serial.{contents, Serial}
 use Rattle.serial.proofs.Places.{find-nobody}
 use Rattle.serial.proofs.Steps.{step-called, one-store, bind-go, must-go}
@@ -64,6 +64,25 @@ module _ (last : Store) (whole : List Event) (from : ℕ) where
           (subst (λ z. World (worldOf z) from s′) f (world-after cs s′ from (m .1)))
           (sym e) (λ h q. quiet h cs s′ (m .1) q) i
 
+-- ---- the line has all of the accepted transactions
+lined-total : (f : Accepted → ℕ) (a : Accepted) (l : List Accepted) → total f (lined a l) ≡ f a + total f l
+unfolding lined total
+lined-total f a [] = refl
+lined-total f a (b ∷ bs) = cases (lined-total f a bs) (ltb (placeOf a) (placeOf b))
+  where
+    cases : total f (lined a bs) ≡ f a + total f bs → (z : Bool) → total f (cond z (a ∷ (b ∷ bs)) (b ∷ lined a bs)) ≡ f a + (f b + total f bs)
+    cases ih true = refl
+    cases ih false = omega arith
+
+lineFrom-total : (f : Accepted → ℕ) (l as′ : List Accepted) → total f (lineFrom l as′) ≡ total f l + total f as′
+unfolding lineFrom total
+lineFrom-total f l [] = omega arith
+lineFrom-total f l (a ∷ as′) = lineFrom-total f (lined a l) as′ ∙ omega (arith, lined-total f a l)
+
+line-total : (f : Accepted → ℕ) (as′ : List Accepted) → total f (line as′) ≡ total f as′
+unfolding total
+line-total f as′ = lineFrom-total f [] as′ ∙ omega arith
+
 -- ---- from an opened store on
 module _ (st : Settings) (runs : List Run) (mode : st .serializable ≡ true) (cs : List Call) (one : onOneStore cs ≡ true) where
   start : Store
@@ -102,6 +121,7 @@ module _ (st : Settings) (runs : List Run) (mode : st .serializable ≡ true) (c
   unfolding start last
   serial-opened =
       record {
+        each = λ f. line-total f (accepted (trace called start cs));
         placed = along-stands (worldOf last) along-line;
         same = rw first-world (along-alone (worldOf last) along-line);
         ends = λ k. rw (first-world, last-world) (ap (λ (m : Plain). m k) (along-carried (worldOf last) along-line));
@@ -129,22 +149,3 @@ serial st images room s e mode cs one =
 pub opened-never-nine : (st : Settings) (images : List Bytes) (room : ℕ) (s : Store) → all octets images ≡ true → openStore st images room ≡ go s
     → (cs : List Call) → all ofBytes cs ≡ true → Every (λ (e : Event). replyNumber (e .reply) ≡ 9 → ⊥) (trace called s cs)
 opened-never-nine st images room s b e cs o = never-nine cs s o (opened-sound st images room s b e)
-
--- the line has the accepted transactions and no others, each as often: any sum over them is the same
-lined-total : (f : Accepted → ℕ) (a : Accepted) (l : List Accepted) → total f (lined a l) ≡ f a + total f l
-unfolding lined total
-lined-total f a [] = refl
-lined-total f a (b ∷ bs) = cases (lined-total f a bs) (ltb (placeOf a) (placeOf b))
-  where
-    cases : total f (lined a bs) ≡ f a + total f bs → (z : Bool) → total f (cond z (a ∷ (b ∷ bs)) (b ∷ lined a bs)) ≡ f a + (f b + total f bs)
-    cases ih true = refl
-    cases ih false = omega arith
-
-lineFrom-total : (f : Accepted → ℕ) (l as′ : List Accepted) → total f (lineFrom l as′) ≡ total f l + total f as′
-unfolding lineFrom total
-lineFrom-total f l [] = omega arith
-lineFrom-total f l (a ∷ as′) = lineFrom-total f (lined a l) as′ ∙ omega (arith, lined-total f a l)
-
-pub line-total : (f : Accepted → ℕ) (as′ : List Accepted) → total f (line as′) ≡ total f as′
-unfolding total
-line-total f as′ = lineFrom-total f [] as′ ∙ omega arith

@@ -1,0 +1,5 @@
+pub mod Records
+pub mod Placing
+pub mod Stamping
+pub mod Packing
+pub mod Packed

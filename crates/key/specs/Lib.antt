@@ -1,0 +1,4 @@
+pub mod Stamps
+pub mod Packing
+pub mod Versions
+pub mod Places
