@@ -1,0 +1,3 @@
+-- The laws of this crate, by topic.
+-- Assumes nothing.
+pub mod Hashing
