@@ -1,0 +1,20 @@
+-- Laws of the layout: of the combinators, of each part, of a whole store, of calls on bytes, of where each part lies, and of changes.
+pub mod Streams
+pub mod Images
+pub mod Slots
+pub mod LayoutLaws
+pub mod Sizes
+pub mod StoreLaws
+pub mod SoundFits
+pub mod SoundState
+pub mod Outcomes
+pub mod CallBytes
+pub mod RunLaws
+pub mod Past
+pub mod Sides
+pub mod Reading
+pub mod Lies
+pub mod Places
+pub mod Changes
+pub mod Inside
+pub mod Whole

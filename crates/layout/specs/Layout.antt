@@ -1,14 +1,14 @@
 -- The layout of a store's state: its settings first, then a slot of a fixed width for each part.
 -- Assumes nothing.
-use Prim.Native.Nat.{ℕ, _+_, _*_}
+use Prim.Native.Nat.{ℕ}
 use mathlib.Core.Bool.{Bool, false, cond}
-use mathlib.Core.List.{List, [], _++_, reverse}
+use mathlib.Core.List.{List, [], _∷_, _++_, reverse}
 use mathlib.Core.Option.{Option, none, some}
 use lib.ListN.{length, take, drop}
 use lib.Dec.{leb}
 use Rattle.paper.specs.Keys.{Bytes, Version, Pair}
 use Rattle.paper.specs.Runs.{Run}
-use Rattle.paper.specs.Readers.{Row}
+use Rattle.paper.specs.Readers.{Row, row}
 use Rattle.paper.specs.History.{Commit, makeCommit}
 use Rattle.paper.specs.Image.{recordBytes, oneRecord, imageOf, Verdict, good, broken, foreign, verdict}
 use Rattle.paper.specs.Settings.{Settings, stateLength}
@@ -16,7 +16,8 @@ use Rattle.paper.specs.Store.{Txn, makeTxn, Store, makeStore, frozenOf}
 use Rattle.paper.specs.Sound.{sound}
 use Rattle.paper.specs.Refusals.{Try, stop, go}
 use Rattle.paper.specs.Calls.{Reply, refused, Outcome, Call, tried}
-use Rattle.layout.specs.Codec.{Stream, num, both, via, flag, Whole, sized, plain, many, wholeVia, Slot, room, beside, rows, optional, slotVia, mapOption}
+use Rattle.layout.specs.Codec.{Stream, num, both, via, flagNumber, flag, Whole, sized, plain, many, wholeVia, Slot, room, beside, rows, optional, slotVia, mapOption}
+use Rattle.layout.specs.Offsets.{startClock, widthRows, widthHistory, widthActive, widthArea, widthOverlay, widthReads, widthWrites}
 
 -- ---- streams
 -- the settings in 72 bytes: the mode, 1 where it is serializable, and the eight numbers, 8 bytes each
@@ -47,17 +48,26 @@ n8 = num 8
 unfoldable pub settingsStream : Stream Settings
 settingsStream = via toSettings fromSettings (both (flag 8) (both n8 (both n8 (both n8 (both n8 (both n8 (both n8 (both n8 n8))))))))
 
+-- the nine numbers as they stand there
+abbrev pub settingNumbers : Settings → List ℕ
+settingNumbers s =
+    flagNumber (s .serializable) ∷ s .transactions ∷ s .overlayBytes ∷ s .readHashes ∷ s .writeHashes ∷ s .historyEntries ∷ s .historyHashes ∷ s .activeBytes ∷ s .areaBytes ∷ []
+
+-- values one after the other, with the number of their bytes in front
+abbrev pub listed : {A : Type 0} → Stream A → Stream (List A)
+listed S = sized 8 (many S)
+
 -- a reader row: timestamp, count
 unfoldable pub rowStream : Stream Row
-rowStream = via (λ p. record { time = p .0; count = p .1 }) (λ r. (r .time, r .count)) (both n8 n8)
+rowStream = via (λ p. row (p .0) (p .1)) (λ r. (r .time, r .count)) (both n8 n8)
 
--- rising hashes of 4 bytes
-unfoldable pub hashes : Whole (List ℕ)
-hashes = many (num 4)
+-- hashes of 4 bytes
+abbrev pub hashesStream : Stream (List ℕ)
+hashesStream = listed (num 4)
 
 -- a commit of the history: number, hashes
 unfoldable pub commitStream : Stream Commit
-commitStream = via (λ p. makeCommit (p .0) (p .1)) (λ c. (c .number, c .hashes)) (both n8 (sized 8 hashes))
+commitStream = via (λ p. makeCommit (p .0) (p .1)) (λ c. (c .number, c .hashes)) (both n8 hashesStream)
 
 -- an entry of an overlay: key, value, each with its length in 2 bytes
 unfoldable pub pairStream : Stream Pair
@@ -75,18 +85,31 @@ runOf foreign = none
 unfoldable pub image : Whole Run
 image = record { form = imageOf; parse = λ s. runOf (verdict s) }
 
+-- At most 16 images, each with its length, the last in run order first: so a run that is frozen goes behind the others, and none of them moves.
+unfoldable pub imagesWhole : Whole (List Run)
+imagesWhole = wholeVia reverse reverse (many (sized 8 image))
+
+abbrev pub imagesStream : Stream (List Run)
+imagesStream = sized 8 imagesWhole
+
 -- ---- the place of a transaction: handle, 0 where it is free; read number, open or closed; overlay; read and write sets
 abbrev pub TxnParts : Type 0
 TxnParts = (ℕ × Bool) × (List Pair × (List ℕ × List ℕ))
 
--- the overlay and the sets
-unfoldable pub workSlot : Settings → Slot (List Pair × (List ℕ × List ℕ))
-workSlot s =
-    beside (room (8 + s .overlayBytes) (sized 8 (many pairStream)))
-    (beside (room (8 + 4 * s .readHashes) (sized 8 hashes)) (room (8 + 4 * s .writeHashes) (sized 8 hashes)))
+abbrev pub headSlot : Slot (ℕ × Bool)
+headSlot = room 16 (both n8 (flag 8))
+
+abbrev pub overlaySlot : Settings → Slot (List Pair)
+overlaySlot s = room (widthOverlay s) (listed pairStream)
+
+abbrev pub readsSlot : Settings → Slot (List ℕ)
+readsSlot s = room (widthReads s) hashesStream
+
+abbrev pub writesSlot : Settings → Slot (List ℕ)
+writesSlot s = room (widthWrites s) hashesStream
 
 unfoldable pub txnSlot : Settings → Slot TxnParts
-txnSlot s = beside (room 16 (both n8 (flag 8))) (workSlot s)
+txnSlot s = beside headSlot (beside (overlaySlot s) (beside (readsSlot s) (writesSlot s)))
 
 abbrev pub toTxn : Option (ℕ × TxnParts) → Option Txn
 toTxn none = none
@@ -96,31 +119,32 @@ abbrev pub fromTxn : Option Txn → Option (ℕ × TxnParts)
 fromTxn none = none
 fromTxn (some t) = some (t .handle, ((t .read, t .open?), (t .own, (t .reads, t .writes))))
 
+-- what stands in front of a place
+abbrev pub tagOf : Option Txn → ℕ
+tagOf none = 0
+tagOf (some t) = t .handle
+
 unfoldable pub placeSlot : Settings → Slot (Option Txn)
 placeSlot s = slotVia toTxn fromTxn (optional (txnSlot s))
 
 -- ---- the parts after the settings
 unfoldable pub settingsSlot : Slot Settings
-settingsSlot = room 72 settingsStream
+settingsSlot = room startClock settingsStream
 
 unfoldable pub numberSlot : Slot ℕ
 numberSlot = room 8 n8
 
 unfoldable pub rowsSlot : Settings → Slot (List Row)
-rowsSlot s = room (8 + 16 * s .transactions) (sized 8 (many rowStream))
+rowsSlot s = room (widthRows s) (listed rowStream)
 
 unfoldable pub historySlot : Settings → Slot (List Commit)
-historySlot s = room (8 + 16 * s .historyEntries + 4 * s .historyHashes) (sized 8 (many commitStream))
+historySlot s = room (widthHistory s) (listed commitStream)
 
 unfoldable pub activeSlot : Settings → Slot Run
-activeSlot s = room (8 + s .activeBytes) (sized 8 (many versionStream))
-
--- At most 16 images, each with its length, the last in run order first: so a run that is frozen goes behind the others, and none of them moves.
-unfoldable pub imagesWhole : Whole (List Run)
-imagesWhole = wholeVia reverse reverse (many (sized 8 image))
+activeSlot s = room (widthActive s) (listed versionStream)
 
 unfoldable pub frozenSlot : Settings → Slot (List Run)
-frozenSlot s = room (8 + 8 * 16 + s .areaBytes) (sized 8 imagesWhole)
+frozenSlot s = room (widthArea s) imagesStream
 
 unfoldable pub placesSlot : Settings → Slot (List (Option Txn))
 placesSlot s = rows (s .transactions) (placeSlot s)
@@ -140,10 +164,10 @@ partsOf s = (s .clock, (s .counter, (s .readers, (s .history, (s .active, (froze
 -- ---- the state
 -- the bytes of the parts, behind the settings
 abbrev pub partsIn : Settings → Bytes → Bytes
-partsIn s b = take (partsSlot s .width) (drop 72 b)
+partsIn s b = take (partsSlot s .width) (drop startClock b)
 
 abbrev pub behind : Settings → Bytes → Bytes
-behind s b = drop (partsSlot s .width) (drop 72 b)
+behind s b = drop (partsSlot s .width) (drop startClock b)
 
 abbrev pub withSettings : Bytes → Option Settings → Option Store
 withSettings b none = none
@@ -151,7 +175,7 @@ withSettings b (some s) = cond (leb (stateLength s) (length b)) (mapOption (toSt
 
 -- the settings in front
 unfoldable pub settingsIn : Bytes → Option Settings
-settingsIn b = settingsSlot .read (take 72 b)
+settingsIn b = settingsSlot .read (take startClock b)
 
 -- the store that a state holds; none where the settings are no settings, 'the buffer' is not 'long enough for them', or a part does not read
 unfoldable pub readStore : Bytes → Option Store
@@ -160,7 +184,7 @@ readStore b = withSettings b (settingsIn b)
 -- the store is written over the old bytes; what it does not use keeps what it had
 unfoldable pub writeStore : Store → Bytes → Bytes
 writeStore s b =
-    settingsSlot .write (s .settings) (take 72 b)
+    settingsSlot .write (s .settings) (take startClock b)
     ++ (partsSlot (s .settings) .write (partsOf s) (partsIn (s .settings) b) ++ behind (s .settings) b)
 
 -- ---- a call on a state: the reply, and the bytes after it

@@ -45,14 +45,14 @@ unfolding After _>>=_
 opened-after (stop r) h = tt
 opened-after (go s) h = h s refl
 
-open-sound : (st : Settings) (images : Bytes) (lengths : List ℕ) (room : ℕ) → octets images ≡ true → After (λ x. sound x ≡ true) (tryOpen st images lengths room)
+pub open-sound : (st : Settings) (images : Bytes) (lengths : List ℕ) (room : ℕ) → octets images ≡ true → After (λ x. sound x ≡ true) (tryOpen st images lengths room)
 unfolding tryOpen
 open-sound st images lengths room o =
     opened-after (openStore st (imagesIn images lengths) room)
     (λ s e. opened-sound st (imagesIn images lengths) room s (images-octets images lengths o) e)
 
 -- ---- every call
-tried-sound : (s : Store) (c : Call) → ofBytes c ≡ true → After (λ x. sound x ≡ true) (tried s c)
+pub tried-sound : (s : Store) (c : Call) → ofBytes c ≡ true → After (λ x. sound x ≡ true) (tried s c)
 unfolding tried ofBytes
 tried-sound s (opening st images lengths room) o = open-sound st images lengths room o
 tried-sound s begin o = begin-sound s

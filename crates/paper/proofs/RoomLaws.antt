@@ -152,18 +152,12 @@ table-exactly room rows t s =
 
 -- ---- the state's length
 -- 'at most 65,536 bytes plus twice the room the settings grant'
-length-sum : (t o h e g r a b : ℕ) → a ≡ t * (64 + o + h) → b ≡ t * (256 + o + h) → a ≤ b → 248 + a + (16 * e + g) + r ≤ 65_536 + 2 * (b + (64 * e + g) + r)
-length-sum t o h e g r a b p q l = omega arith
-
 pub length-allowed : (s : Settings) → stateLength s ≤ 65_536 + 2 * granted s
 unfolding stateLength granted
 length-allowed s =
-    length-sum (s .transactions) (s .overlayBytes) (4 * (s .readHashes + s .writeHashes)) (s .historyEntries) (4 * s .historyHashes) (s .activeBytes + s .areaBytes)
-    (s .transactions * (64 + s .overlayBytes + 4 * (s .readHashes + s .writeHashes))) (s .transactions * (256 + s .overlayBytes + 4 * (s .readHashes + s .writeHashes)))
-    refl refl (more (s .transactions) (64 + s .overlayBytes + 4 * (s .readHashes + s .writeHashes)) (256 + s .overlayBytes + 4 * (s .readHashes + s .writeHashes)) (omega arith))
-  where
-    more : (t x y : ℕ) → x ≤ y → t * x ≤ t * y
-    more t x y h = mul-le-mul-left t h
+    let t : ℕ = s .transactions in
+    let p : t * (64 + s .overlayBytes + 4 * (s .readHashes + s .writeHashes)) ≤ t * (256 + s .overlayBytes + 4 * (s .readHashes + s .writeHashes)) = mul-le-mul-left t (omega arith) in
+    omega arith
 
 -- ---- 'active run (12 bytes plus key and value for each version)': a commit takes room for each entry of its overlay, and gives none back
 -- a version put into a run that has none of its key and timestamp

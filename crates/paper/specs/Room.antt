@@ -1,6 +1,6 @@
 -- Room: each rule of 'no room means exactly' by a name of its own, as what must hold so that there is room.
 -- Assumes nothing.
-use Prim.Native.Nat.{ℕ, suc}
+use Prim.Native.Nat.{ℕ}
 use mathlib.Core.Bool.{Bool, _&&_}
 use mathlib.Core.List.{List}
 use mathlib.Core.Option.{Option, none, some}
