@@ -61,9 +61,12 @@ listed S = sized 8 (many S)
 unfoldable pub rowStream : Stream Row
 rowStream = via (λ p. row (p .0) (p .1)) (λ r. (r .time, r .count)) (both n8 n8)
 
--- hashes of 4 bytes
+-- hashes of 4 bytes, one after the other
+abbrev pub hashes : Whole (List ℕ)
+hashes = many (num 4)
+
 abbrev pub hashesStream : Stream (List ℕ)
-hashesStream = listed (num 4)
+hashesStream = sized 8 hashes
 
 -- a commit of the history: number, hashes
 unfoldable pub commitStream : Stream Commit

@@ -1,0 +1,2 @@
+-- The history of commits in a lent buffer.
+pub mod Histories

@@ -1,0 +1,2 @@
+-- Sets of hashes in a lent buffer.
+pub mod Sets
