@@ -1,0 +1,2 @@
+-- Demand 3 of the bytes that a host lends.
+pub mod OnBytes
