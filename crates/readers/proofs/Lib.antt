@@ -1,0 +1,2 @@
+-- What the lenders of rows share.
+pub mod Local
