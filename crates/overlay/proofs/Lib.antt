@@ -1,0 +1,8 @@
+-- Laws of packed own writes.
+pub mod Fields
+pub mod Many
+pub mod Pairs
+pub mod Checking
+pub mod Finding
+pub mod Splitting
+pub mod Putting

@@ -1,0 +1,3 @@
+-- The own writes of a transaction, packed in bytes.
+pub mod Overlay
+pub mod Entries
