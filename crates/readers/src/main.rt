@@ -2,7 +2,6 @@
 // returns, what it tells, and for a call that writes how many rows are in use and what all four hold.
 mod lent;
 mod told;
-mod two;
 
 use lent::AddedIn;
 use lent::RemovedFrom;
@@ -12,6 +11,8 @@ use watermark::reply::Mark;
 use watermark::reply::Removed;
 use watermark::reply::Smallest;
 use watermark::reply::Timestamps;
+ghost use mathlib.Core.Path.{_≡_};
+ghost use lib.ListN.{length};
 
 // Which of the two tables is called.
 enum Which {
@@ -39,6 +40,62 @@ fn four(a: Row, b: Row, c: Row, d: Row, used: usize) -> Table {
         used: used,
     }
 }
+
+// ---- a table of four rows by value, lent to the library's calls over two slices
+
+fn times_of(rows: [Row; 4]) -> [u64; 4]
+    ensures { λ r. ⌜ 4 ≡ length r ⌝ }
+{
+    [rows[0].time, rows[1].time, rows[2].time, rows[3].time]
+}
+
+fn counts_of(rows: [Row; 4]) -> [u64; 4]
+    ensures { λ r. ⌜ 4 ≡ length r ⌝ }
+{
+    [rows[0].count, rows[1].count, rows[2].count, rows[3].count]
+}
+
+fn rows_of(times: [u64; 4], counts: [u64; 4]) -> [Row; 4] {
+    let a = row(times[0], counts[0]);
+    let b = row(times[1], counts[1]);
+    let c = row(times[2], counts[2]);
+    let d = row(times[3], counts[3]);
+    [a, b, c, d]
+}
+
+fn add_to_slices(rows: [Row; 4], used: usize, time: u64) -> AddedIn {
+    let mut times = times_of(rows);
+    let mut counts = counts_of(rows);
+    let reply = watermark::add_reader(&mut times, &mut counts, used, time);
+    lent::added_in(rows_of(times, counts), reply)
+}
+
+fn remove_from_slices(rows: [Row; 4], used: usize, time: u64) -> RemovedFrom {
+    let mut times = times_of(rows);
+    let mut counts = counts_of(rows);
+    let reply = watermark::remove_reader(&mut times, &mut counts, used, time);
+    lent::removed_from(rows_of(times, counts), reply)
+}
+
+fn smallest_of_slices(rows: [Row; 4], used: usize) -> Smallest {
+    let times = times_of(rows);
+    let counts = counts_of(rows);
+    watermark::smallest(&times, &counts, used)
+}
+
+fn timestamps_of_slices(rows: [Row; 4], used: usize) -> Timestamps {
+    let times = times_of(rows);
+    let counts = counts_of(rows);
+    watermark::timestamps(&times, &counts, used)
+}
+
+fn watermark_of_slices(rows: [Row; 4], used: usize, clock: u64) -> Mark {
+    let times = times_of(rows);
+    let counts = counts_of(rows);
+    watermark::watermark(&times, &counts, used, clock)
+}
+
+// ---- lines
 
 fn text(s: &[u8]) {
     io::write_all(1, s);
@@ -115,7 +172,7 @@ fn removed_table(r: RemovedFrom, used: usize) -> Table {
 fn called_add(which: Which, t: Table, time: u64) -> AddedIn {
     let rows = t.rows;
     match which {
-        Which::Two => two::add_in(rows, t.used, time),
+        Which::Two => add_to_slices(rows, t.used, time),
         Which::Rows => lent::add_in(rows, t.used, time),
     }
 }
@@ -123,7 +180,7 @@ fn called_add(which: Which, t: Table, time: u64) -> AddedIn {
 fn called_remove(which: Which, t: Table, time: u64) -> RemovedFrom {
     let rows = t.rows;
     match which {
-        Which::Two => two::remove_from(rows, t.used, time),
+        Which::Two => remove_from_slices(rows, t.used, time),
         Which::Rows => lent::remove_from(rows, t.used, time),
     }
 }
@@ -131,7 +188,7 @@ fn called_remove(which: Which, t: Table, time: u64) -> RemovedFrom {
 fn called_smallest(which: Which, t: Table) -> Smallest {
     let rows = t.rows;
     match which {
-        Which::Two => two::smallest_of(rows, t.used),
+        Which::Two => smallest_of_slices(rows, t.used),
         Which::Rows => lent::smallest_of(rows, t.used),
     }
 }
@@ -139,7 +196,7 @@ fn called_smallest(which: Which, t: Table) -> Smallest {
 fn called_timestamps(which: Which, t: Table) -> Timestamps {
     let rows = t.rows;
     match which {
-        Which::Two => two::timestamps_of(rows, t.used),
+        Which::Two => timestamps_of_slices(rows, t.used),
         Which::Rows => lent::timestamps_of(rows, t.used),
     }
 }
@@ -190,7 +247,7 @@ fn look(which: Which, t: Table) {
 
 fn watermark_at(t: Table, clock: u64) {
     let rows = t.rows;
-    let m = two::watermark_of(rows, t.used, clock);
+    let m = watermark_of_slices(rows, t.used, clock);
     text(b"two watermark at the clock ");
     number(clock);
     text(b": ");

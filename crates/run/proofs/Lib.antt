@@ -1,0 +1,11 @@
+pub mod Recording
+pub mod Reading
+pub mod Rising
+pub mod Tallying
+pub mod Checking
+pub mod Judging
+pub mod Told
+pub mod Writing
+pub mod Seeking
+pub mod Images
+pub mod Stepping
