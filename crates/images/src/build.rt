@@ -1,7 +1,7 @@
 // Images of small versions, of lists of them, and of single records of a given length.
 
 // Writes a record, if there is room, and answers the place behind it.
-pub fn put(s: &mut [u8], at: usize, key: &[u8], time: u64, value: &[u8]) -> usize {
+pub(crate) fn put(s: &mut [u8], at: usize, key: &[u8], time: u64, value: &[u8]) -> usize {
     if s.len() < at {
         return at;
     }
@@ -37,7 +37,7 @@ fn version(s: &mut [u8], at: usize, number: u8) -> usize {
 }
 
 // The image of the versions of a list; answers its length.
-pub fn image_of(s: &mut [u8], list: &[u8]) -> usize {
+pub(crate) fn image_of(s: &mut [u8], list: &[u8]) -> usize {
     if s.len() < 9 {
         return 0;
     }

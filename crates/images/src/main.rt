@@ -43,7 +43,7 @@ fn differing(n: u64, told: u64, plainly: u64) -> u64 {
 }
 
 // The first n bytes, or all that there are.
-pub fn front(s: &[u8], n: usize) -> &[u8] {
+pub(crate) fn front(s: &[u8], n: usize) -> &[u8] {
     if n <= s.len() {
         return &s[..n];
     }
@@ -51,7 +51,7 @@ pub fn front(s: &[u8], n: usize) -> &[u8] {
 }
 
 // One image more: the first n bytes.
-pub fn judged(c: Count, s: &[u8], n: usize) -> Count {
+pub(crate) fn judged(c: Count, s: &[u8], n: usize) -> Count {
     let image = front(s, n);
     let told = number(image);
     let differ = differing(c.differ, told, plain::verdict(image));

@@ -96,7 +96,7 @@ fn all_right(s: &[u8], count: usize) -> bool {
 }
 
 // 0, 10 or 11.
-pub fn verdict(s: &[u8]) -> u64 {
+pub(crate) fn verdict(s: &[u8]) -> u64 {
     if at(s, 0) != 82 {
         return 10;
     }

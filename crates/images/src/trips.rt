@@ -11,7 +11,7 @@ fn record(s: &mut [u8], at: usize, n: usize, values: &[u8]) -> usize {
 }
 
 // The first n of them, packed from `at`; answers the place behind them.
-pub fn packed(s: &mut [u8], at: usize, n: usize) -> usize {
+pub(crate) fn packed(s: &mut [u8], at: usize, n: usize) -> usize {
     let mut i = at;
     let mut k = 0;
     while k < n {
@@ -22,7 +22,7 @@ pub fn packed(s: &mut [u8], at: usize, n: usize) -> usize {
 }
 
 // Their image, from the start; answers its length.
-pub fn image(s: &mut [u8], n: usize) -> usize {
+pub(crate) fn image(s: &mut [u8], n: usize) -> usize {
     if s.len() < 9 {
         return 0;
     }
@@ -96,7 +96,7 @@ fn is_end(step: Step) -> bool {
 }
 
 // How many of the first n records a reader finds, in order, and then the end: n + 1 where all is as written.
-pub fn read_back(s: &[u8], n: usize) -> u64 {
+pub(crate) fn read_back(s: &[u8], n: usize) -> u64 {
     let mut right: u64 = 0;
     let mut at = 9;
     let mut k = 0;
@@ -114,7 +114,7 @@ pub fn read_back(s: &[u8], n: usize) -> u64 {
 }
 
 // How many of the records after the first a reader finds behind the one before.
-pub fn followed(s: &[u8], n: usize) -> u64 {
+pub(crate) fn followed(s: &[u8], n: usize) -> u64 {
     let mut right: u64 = 0;
     let mut at = 9;
     let mut k = 1;
@@ -156,7 +156,7 @@ fn freeze(s: &mut [u8], to: usize, from: usize, end: usize) -> bool {
 }
 
 // Packs n records from `from` on and freezes them at `to`: 1 where that is their image, which is written at the start.
-pub fn frozen(s: &mut [u8], n: usize, to: usize, from: usize) -> u64 {
+pub(crate) fn frozen(s: &mut [u8], n: usize, to: usize, from: usize) -> u64 {
     let long = image(s, n);
     let end = packed(s, from, n);
     if !freeze(s, to, from, end) {
