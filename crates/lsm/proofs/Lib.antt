@@ -1,0 +1,12 @@
+pub mod Basics
+pub mod Walking
+pub mod PresentLaws
+pub mod LowLaws
+pub mod SeekLaws
+pub mod PairLaws
+pub mod OverlayLaws
+pub mod Scanning
+pub mod ReadLaws
+pub mod ViewLaws
+pub mod NewestLaws
+pub mod Determined

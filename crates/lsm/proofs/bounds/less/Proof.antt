@@ -1,0 +1,32 @@
+use Rattle.raw.specs.Orders.{ordering}
+use Rattle.paper.specs.Lists.{isLt}
+use mathlib.Core.Path.{ap, sym, _∙_}
+use borrow.Author.Needs.{needs}
+use Rattle.lsm.proofs.bounds.less.Statement.{statement}
+use Rattle.lsm.proofs.bounds.less.Tie as tie
+
+compare-requires : tie.Need-compare-requires
+compare-requires c κs = search needs
+
+enum-told : tie.Need-enum-told
+enum-told c = search needs
+
+enum-told-2 : tie.Need-enum-told-2
+enum-told-2 c = search needs
+
+enum-told-3 : tie.Need-enum-told-3
+enum-told-3 c = search needs
+
+returns : tie.Need-returns
+returns c = ap isLt (ap ordering (sym (c .enum-told .given .1)) ∙ c .before .before .compare .ensures)
+
+returns-2 : tie.Need-returns-2
+returns-2 c = ap isLt (ap ordering (sym (c .enum-told2 .given .1)) ∙ c .before .before .compare .ensures)
+
+returns-3 : tie.Need-returns-3
+returns-3 c = ap isLt (ap ordering (sym (c .enum-told3 .given .1)) ∙ c .before .before .compare .ensures)
+
+pub less-spec : {M : Type 1} → statement M
+less-spec =
+    tie.close
+    (tie.spec compare-requires enum-told enum-told-2 enum-told-3 returns returns-2 returns-3)

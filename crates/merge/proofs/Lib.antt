@@ -1,0 +1,12 @@
+pub mod CursorLaws
+pub mod Deep
+pub mod HeapLaws
+pub mod Rank
+pub mod Weights
+pub mod KeepLaws
+pub mod MergeLaws
+pub mod Rests
+pub mod HeapSteps
+pub mod Passing
+pub mod Handing
+pub mod Building
