@@ -1,0 +1,2 @@
+-- The bytes that are read.
+pub mod Packed

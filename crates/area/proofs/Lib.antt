@@ -1,0 +1,16 @@
+pub mod Many
+pub mod Sizing
+pub mod RunsSound
+pub mod ActiveLaws
+pub mod Imaging
+pub mod Known
+pub mod AreaLaws
+pub mod Newer
+pub mod Checked
+pub mod Lying
+pub mod Counting
+pub mod Sites
+pub mod Placing
+pub mod OpeningLaws
+pub mod FreezeLaws
+pub mod PutLaws

@@ -1,0 +1,4 @@
+pub mod Lying
+pub mod Histories
+pub mod Seats
+pub mod Together
