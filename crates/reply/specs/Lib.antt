@@ -1,0 +1,3 @@
+-- What replies tell, and what a call on bytes tells.
+pub mod Told
+pub mod OnBytes

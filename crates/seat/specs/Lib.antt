@@ -1,0 +1,2 @@
+-- The transaction of a handle.
+pub mod Seats
