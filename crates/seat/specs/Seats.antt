@@ -22,7 +22,7 @@ pub record Seated (s : Store) (h at read : ℕ) (mark : Bool) : Type 0 where
   -- what is at the handle's place is put anew there
   pub put : (n : Option Txn) → putTxn h n (s .places) ≡ set (s .places) index n
   pub reads : txn .read ≡ read
-  pub open : txn .open? ≡ mark
+  pub marked : txn .open? ≡ mark
 
 abbrev pub SeatTold : Store → ℕ → Seat → Type 0
 SeatTold s h (Open at read) = Seated s h at read true

@@ -32,16 +32,19 @@ pub fn seat_of(state: &[u8], shape: Shape, handle: u64) -> Seat
     }
     match table::find_place(state, shape.places, shape.stride, shape.count, handle) {
         Found::Nothing => Seat::Missing,
-        Found::At { index: _, start } => seated(state, start),
+        Found::At { index: _, start } => {
+            let read = raw::be64(state, start + 8);
+            if raw::be64(state, start + 16) == 1 {
+                return Seat::Open {
+                    place: start,
+                    read: read,
+                };
+            }
+            Seat::Closed {
+                place: start,
+                read: read,
+            }
+        }
     }
 }
 
-// The transaction of the place that begins at `start`.
-fn seated(state: &[u8], start: usize) -> Seat
-{
-    let read = raw::be64(state, start + 8);
-    if raw::be64(state, start + 16) == 1 {
-        return Seat::Open { place: start, read: read };
-    }
-    Seat::Closed { place: start, read: read }
-}

@@ -1,0 +1,2 @@
+-- Laws of a handle's transaction.
+pub mod Finding
