@@ -5,7 +5,16 @@ ghost use mathlib.Core.Path.{_≡_};
 ghost use Rattle.answers.specs.Packed.{viewOf, plainView, toppedView, turnedView};
 
 // Five runs, and own writes from `own` to `stop`.
-fn view(a: Cursor, b: Cursor, c: Cursor, d: Cursor, e: Cursor, own: usize, stop: usize, read: u64) -> View
+fn view(
+    a: Cursor,
+    b: Cursor,
+    c: Cursor,
+    d: Cursor,
+    e: Cursor,
+    own: usize,
+    stop: usize,
+    read: u64,
+) -> View
     ensures { λ r. ⌜ r ≡ viewOf a b c d e own stop read ⌝ }
 {
     let mut cursors = [Cursor {

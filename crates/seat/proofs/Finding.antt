@@ -60,7 +60,7 @@ module _ (b : Bytes) (o : octets b ≡ true) (h : soundState b ≡ true) where
     sought =
         let S : Shaped st z = shape-fits z e in
         let p : foundIn b (z .places) (z .stride) (z .count) handle ≡ foundIn b (startPlaces st) (stride st) (st .transactions) handle =
-          ap (λ (n : ℕ). foundIn b n (z .stride) (z .count) handle) (S .places) ∙ ap (λ (n : ℕ). foundIn b (startPlaces st) n (z .count) handle) (S .stride) ∙ ap (λ (n : ℕ). foundIn b (startPlaces st) (stride st) n handle) (S .count) in
+        ap (λ (n : ℕ). foundIn b n (z .stride) (z .count) handle) (S .places) ∙ ap (λ (n : ℕ). foundIn b (startPlaces st) n (z .count) handle) (S .stride) ∙ ap (λ (n : ℕ). foundIn b (startPlaces st) (stride st) n handle) (S .count) in
         lie.txn-found st b (s .places) (inside.lies b s o here .places) handle k r (f ∙ p)
 
     -- no place has the handle

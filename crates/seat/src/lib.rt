@@ -47,4 +47,3 @@ pub fn seat_of(state: &[u8], shape: Shape, handle: u64) -> Seat
         }
     }
 }
-
