@@ -1,12 +1,17 @@
 -- How a call ends, as a host sees it: each return of a call's code is one of these.
 -- Assumes nothing.
-use mathlib.Core.Path.{_≡_, refl, ap, _∙_}
-use mathlib.Core.Bool.{false}
+use mathlib.Core.Path.{_≡_, ap, subst}
+use mathlib.Core.Bool.{true, false}
 use Rattle.paper.specs.Keys.{Bytes}
 use Rattle.paper.specs.Refusals.{Refusal, unsound, Try, stop, go}
-use Rattle.paper.specs.Calls.{Reply, refused, Outcome, Call, tried, valueOut, keyOut}
+use Rattle.paper.specs.Calls.{Reply, refused, Outcome, Call, tried, ofBytes, valueOut, keyOut}
+use Rattle.paper.specs.Sound.{sound}
+use Rattle.paper.proofs.SoundLaws.{After}
+use Rattle.paper.proofs.CallSound.{tried-sound}
 use Rattle.layout.specs.Layout.{writeStore, storeIn, soundState, onBytes}
 use Rattle.layout.specs.Runs.{isOpening}
+use Rattle.layout.proofs.LayoutLaws.{Fits}
+use Rattle.layout.proofs.SoundFits.{sound-fits}
 use Rattle.layout.proofs.CallBytes.{onBytes-refused, onBytes-done, onBytes-unsound}
 use Rattle.reply.specs.Told.{Told, told, why}
 use Rattle.reply.specs.OnBytes.{heard, toldOn, valueOn, keyOn}
@@ -45,6 +50,11 @@ module _ (c : Call) (b : Bytes) where
 
     pub done-value : (out : Bytes) → valueOn c b out ≡ valueOut (o .reply) out
     done-value = out-as (o .reply) (writeStore (o .store) b) (onBytes-done c b o e)
+
+    -- that store is sound, and so it fits its layout
+    pub done-fits : ofBytes c ≡ true → Fits (o .store)
+    unfolding After
+    done-fits k = sound-fits (o .store) (subst (After (λ x. sound x ≡ true)) e (tried-sound (storeIn b) c k))
 
     pub done-key : (out : Bytes) → keyOn c b out ≡ keyOut (o .reply) out
     done-key = key-as (o .reply) (writeStore (o .store) b) (onBytes-done c b o e)

@@ -1,0 +1,3 @@
+-- Laws of begin and end.
+pub mod Beginning
+pub mod Ending

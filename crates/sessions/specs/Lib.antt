@@ -1,0 +1,2 @@
+-- What a transaction needs to enter and to leave.
+pub mod Sessions
