@@ -1,0 +1,2 @@
+-- Laws of a freeze.
+pub mod Freezing
