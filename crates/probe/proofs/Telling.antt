@@ -1,11 +1,15 @@
 -- An answer told by numbers: what the read path answers of a view is told of an equal one.
 -- Assumes nothing.
 use Prim.Native.Nat.{ℕ}
-use mathlib.Core.Path.{_≡_, sym, ap, _∙_, subst}
+use native.Mathlib.Omega.{arith}
+use mathlib.Core.Path.{_≡_, refl, sym, ap, _∙_, subst}
 use mathlib.Core.List.{List}
 use mathlib.Core.Option.{Option}
 use Rattle.paper.specs.Keys.{Bytes, Pair}
+use Rattle.paper.specs.Image as paper
 use Rattle.paper.specs.Seen.{seen, scanned}
+use Rattle.run.specs.Checks.{told}
+use Rattle.run.specs.declared.Verdict.the-variants.{Good, Broken, Foreign}
 use Rattle.lsm.specs.Edges.{boundOf}
 use Rattle.lsm.specs.Answers.{Says, valueIn, InAnswer}
 use Rattle.lsm.specs.Views.{versionsIn, writesIn, Readable}
@@ -14,7 +18,7 @@ use Rattle.lsm.specs.declared.answer.Answer.the-variants.{At}
 use Rattle.lsm.specs.declared.answer.Span.{Span}
 use Rattle.lsm.specs.declared.bounds.Edge.{Edge}
 use Rattle.lsm.specs.declared.view.View.{View}
-use Rattle.probe.specs.Told.{codeOf, numbersOf, Told, Value}
+use Rattle.probe.specs.Told.{codeOf, numbersOf, Told, Value, verdictNumber}
 
 pub told-at : (a : Answer) (p : Span) (ns : List ℕ) → a ≡ At p → (_≡_ {A = ℕ} 1 (codeOf a)) × (numbersOf (At p) ns ≡ numbersOf a ns)
 told-at a p ns e = (sym (ap codeOf e), sym (ap (λ (b : Answer). numbersOf b ns) e))
@@ -53,3 +57,29 @@ get-told s key v w a code before after e got told =
       code-is = told .0;
       numbers = told .1;
     }
+
+-- ---- the verdict on an image
+module _ (v : paper.Verdict) where
+  pub told-good : (n : ℕ) → Good n ≡ told v → 0 ≡ verdictNumber v
+  told-good n = go v
+    where
+      go : (v : paper.Verdict) → Good n ≡ told v → 0 ≡ verdictNumber v
+      go (paper.good r) e = refl
+      go paper.broken e = absurd (let z : _≡_ {A = ℕ} 0 1 = cc in omega arith)
+      go paper.foreign e = absurd (let z : _≡_ {A = ℕ} 0 1 = cc in omega arith)
+
+  pub told-broken : Broken ≡ told v → 10 ≡ verdictNumber v
+  told-broken = go v
+    where
+      go : (v : paper.Verdict) → Broken ≡ told v → 10 ≡ verdictNumber v
+      go (paper.good r) e = absurd (let z : _≡_ {A = ℕ} 0 1 = cc in omega arith)
+      go paper.broken e = refl
+      go paper.foreign e = absurd (let z : _≡_ {A = ℕ} 0 1 = cc in omega arith)
+
+  pub told-foreign : Foreign ≡ told v → 11 ≡ verdictNumber v
+  told-foreign = go v
+    where
+      go : (v : paper.Verdict) → Foreign ≡ told v → 11 ≡ verdictNumber v
+      go (paper.good r) e = absurd (let z : _≡_ {A = ℕ} 0 1 = cc in omega arith)
+      go paper.broken e = absurd (let z : _≡_ {A = ℕ} 0 1 = cc in omega arith)
+      go paper.foreign e = refl

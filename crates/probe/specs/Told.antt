@@ -6,6 +6,7 @@ use mathlib.Core.List.{List}
 use mathlib.Core.Option.{Option}
 use lib.ListN.{set}
 use Rattle.paper.specs.Keys.{Bytes}
+use Rattle.paper.specs.Image.{Verdict, good, broken, foreign}
 use Rattle.lsm.specs.Answers.{valueIn, InAnswer}
 use Rattle.lsm.specs.declared.answer.Answer.{Answer}
 use Rattle.lsm.specs.declared.answer.Answer.the-variants.{At, End}
@@ -31,3 +32,9 @@ pub record Told (right : Answer → Type 0) (code : ℕ) (before after : List �
 pub record Value (s : Bytes) (o : Option Bytes) (a : Answer) : Type 0 where
   pub is : valueIn s a ≡ o
   pub inside : InAnswer s a
+
+-- 10 is given where an opening run is 'cut .., overlong, unsorted, with an empty key or a wrong mark', 11 for 'mark right, version not 1'
+abbrev pub verdictNumber : Verdict → ℕ
+verdictNumber (good r) = 0
+verdictNumber broken = 10
+verdictNumber foreign = 11

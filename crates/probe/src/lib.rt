@@ -1,9 +1,10 @@
-// Two functions for the comparison with the original Rust: a scan and a get over packed runs that a program in another language lends. They are a
-// test harness. The caller answers for the packed bytes, since nothing here checks them.
+// Functions for the comparison with the original Rust: a scan and a get over packed runs that a program in another language lends, and the verdict on
+// an image. They are a test harness. The caller answers for the packed bytes, since nothing here checks them.
 use lsm::answer::Answer;
 use lsm::bounds::Edge;
 use lsm::view::View;
 use merge::heap::Cursor;
+use run::Verdict;
 ghost use mathlib.Core.Path.{_≡_};
 ghost use Prim.Native.Nat.{_+_, _≤_, _<_};
 ghost use lib.ListN.{length};
@@ -12,7 +13,8 @@ ghost use Rattle.lsm.specs.Edges.{boundOf};
 ghost use Rattle.lsm.specs.Answers.{Says, valueIn, InAnswer};
 ghost use Rattle.lsm.specs.Views.{versionsIn, writesIn, Readable};
 ghost use Rattle.probe.specs.Asked.{edgeOf, cursorAt, placed, viewOf};
-ghost use Rattle.probe.specs.Told.{codeOf, numbersOf, Told, Value};
+ghost use Rattle.paper.specs.Image.{verdict};
+ghost use Rattle.probe.specs.Told.{codeOf, numbersOf, Told, Value, verdictNumber};
 
 // 0 is included, 1 excluded, anything else unbounded.
 fn edge_of(kind: u8) -> Edge
@@ -130,4 +132,16 @@ pub extern "C" fn ngalovuki_get(
     let v = view_of(places, runs, own, stop, read);
     let a = lsm::get::get(s, v, key);
     tell(a, out)
+}
+
+// The verdict on an image by document 01's numbers: 0 for a good one, 10 or 11.
+#[no_mangle]
+pub extern "C" fn ngalovuki_verdict(image: &[u8]) -> u64
+    ensures { λ r. ⌜ r ≡ verdictNumber (verdict (now (image .entry))) ⌝ }
+{
+    match run::image::verdict(image) {
+        Verdict::Good { latest: _ } => 0,
+        Verdict::Broken => 10,
+        Verdict::Foreign => 11,
+    }
 }

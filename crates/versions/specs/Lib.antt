@@ -1,0 +1,2 @@
+-- What a commit does to the active run.
+pub mod Absorbing

@@ -1,0 +1,2 @@
+-- A write in a transaction's place.
+pub mod Writes
