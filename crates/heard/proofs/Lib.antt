@@ -1,0 +1,2 @@
+-- Demand 3 of what a host hears, proved.
+pub mod Hearing

@@ -1,0 +1,3 @@
+-- What a host hears of its calls, and what is promised of that.
+pub mod Heard
+pub mod Promise
