@@ -4,7 +4,7 @@ use Prim.Native.Nat.{ℕ}
 use mathlib.Core.Path.{_≡_}
 use mathlib.Core.List.{List, [], _∷_, map}
 use mathlib.Core.Option.{Option, none, some}
-use lib.ListN.{take, drop}
+use lib.ListN.{take}
 use Rattle.paper.specs.Keys.{Bytes, Pair}
 use Rattle.paper.specs.Calls.{Reply, done, began, found, answered, committed, refused, Call}
 use Rattle.reply.specs.Told.{Told, nothing, handle, value, pair, number, why}
