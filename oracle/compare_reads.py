@@ -5,6 +5,7 @@
   compare_reads.py SEED COUNT --program 'CMD'    against CMD too; may be given more than once
   compare_reads.py SEED COUNT --no-oracle ..     without the oracle
   compare_reads.py SEED COUNT --kinds get,scan   only these reads, of get, scan and live
+  compare_reads.py SEED COUNT --long             long keys and values are the longest there are
   compare_reads.py SEED COUNT --print            writes the cases and the model's answers, runs nothing
   compare_reads.py SEED COUNT --self-test        tells the model from wrong models, runs nothing else
 
@@ -154,16 +155,19 @@ def some_key(rng, known):
     if known and way < 0.45:
         return rng.choice(known)
     if known and way < 0.60:
-        return rng.choice(known) + bytes([rng.choice(ALPHABET)])
+        return (rng.choice(known) + bytes([rng.choice(ALPHABET)]))[:LONGEST[-1]]
     if known and way < 0.70:
         key = rng.choice(known)
         return key[:rng.randint(1, len(key))]
     if way < 0.98:
         return bytes(rng.choice(ALPHABET) for _ in range(rng.randint(1, 4)))
-    return bytes([rng.choice(ALPHABET)]) * rng.choice((255, 256, 257, 1000))
+    return bytes([rng.choice(ALPHABET)]) * rng.choice(LONG)
 
 
 ALPHABET = (0, 1, 97, 98, 255)
+# The lengths of long keys; with --long they are the longest that document 01 allows, and values are as long.
+LONG = (255, 256, 257, 1000)
+LONGEST = (65534, 65535)
 
 
 def some_value(rng):
@@ -172,7 +176,7 @@ def some_value(rng):
         return b''
     if way < 0.99:
         return bytes(rng.choice(ALPHABET) for _ in range(rng.randint(1, 3)))
-    return bytes(rng.choice((255, 256, 1000)))
+    return bytes(rng.choice(LONG if LONG == LONGEST else (255, 256, 1000)))
 
 
 def some_bound(rng, known):
@@ -512,12 +516,16 @@ def main():
     ask.add_argument('--program', action='append', default=[], metavar='CMD')
     ask.add_argument('--no-oracle', action='store_true')
     ask.add_argument('--kinds', default='get,scan,live')
+    ask.add_argument('--long', action='store_true')
     ask.add_argument('--print', action='store_true')
     ask.add_argument('--self-test', action='store_true')
     told = ask.parse_args()
     kinds = told.kinds.split(',')
     if not set(kinds) <= {'get', 'scan', 'live'}:
         ask.error('--kinds: of get, scan and live')
+    if told.long:
+        global LONG
+        LONG = LONGEST
     rng = random.Random(told.seed)
     cases = [some_case(rng, kinds) for _ in range(told.count)]
     if told.print:

@@ -1,2 +1,3 @@
 -- Laws of what a call tells.
 pub mod Ends
+pub mod Same

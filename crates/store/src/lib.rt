@@ -5,9 +5,9 @@ ghost use lib.ListN.{length};
 ghost use Rattle.paper.specs.Keys.{Bytes};
 ghost use Rattle.paper.specs.Calls.{Call};
 ghost use Rattle.settings.specs.Opening.{settingsOf};
-ghost use Rattle.lsm.specs.Edges.{boundOf};
 ghost use Rattle.reply.specs.Told.{Told, toldSettled, toldBegun, toldGot, toldScanned, toldCommitted};
 ghost use Rattle.reply.specs.OnBytes.{toldOn, valueOn, keyOn};
+ghost use Rattle.store.specs.Asked.{getOf, scanOf};
 use lsm::bounds::Edge;
 use reply::Begun;
 use reply::Committed;
@@ -35,6 +35,43 @@ pub fn begin(state: &mut [u8]) -> Begun
         };
     }
     sessions::begin(state)
+}
+
+// The value of a key for a transaction, copied to the front of `out`: 9, 3, 4, 1, 2, 5.
+pub fn get(state: &mut [u8], handle: u64, key: &[u8], out: &mut [u8]) -> Got
+    ensures { λ r. ⌜ (_≡_ {A = Told × Bytes} (toldGot r, now (state .exit)) (toldOn (getOf handle (now (key .entry)) (now (out .entry))) (now (state .entry))))
+        × (now (out .exit) ≡ valueOn (getOf handle (now (key .entry)) (now (out .entry))) (now (state .entry)) (now (out .entry))) ⌝ }
+{
+    if !state::sound_state(state) {
+        return Got::Refused {
+            why: Refusal::Unsound,
+        };
+    }
+    answering::get(state, handle, key, out)
+}
+
+// The first present key within the bounds and its value, copied to the front of the out buffers, or the end: 9, 3, 4, 5. The next answer comes from the
+// same upper bound and the last key as an excluded lower bound.
+pub fn scan(
+    state: &mut [u8],
+    handle: u64,
+    low: Edge,
+    lo: &[u8],
+    high: Edge,
+    hi: &[u8],
+    key_out: &mut [u8],
+    value_out: &mut [u8],
+) -> Scanned
+    ensures { λ r. ⌜ (_≡_ {A = Told × Bytes} (toldScanned r, now (state .exit)) (toldOn (scanOf handle low (now (lo .entry)) high (now (hi .entry)) (now («key_out» .entry)) (now («value_out» .entry))) (now (state .entry))))
+        × (now («key_out» .exit) ≡ keyOn (scanOf handle low (now (lo .entry)) high (now (hi .entry)) (now («key_out» .entry)) (now («value_out» .entry))) (now (state .entry)) (now («key_out» .entry)))
+        × (now («value_out» .exit) ≡ valueOn (scanOf handle low (now (lo .entry)) high (now (hi .entry)) (now («key_out» .entry)) (now («value_out» .entry))) (now (state .entry)) (now («value_out» .entry))) ⌝ }
+{
+    if !state::sound_state(state) {
+        return Scanned::Refused {
+            why: Refusal::Unsound,
+        };
+    }
+    answering::scan(state, handle, low, lo, high, hi, key_out, value_out)
 }
 
 // Writes a value at a key: 9, 3, 4, 1, 2, 5.
