@@ -1,146 +1,160 @@
-import struct,bisect
-N=lambda b:int.from_bytes(b,'big')
-def fnv(k):
-    h=2166136261
-    for x in k: h=((h^x)*16777619)&0xffffffff
-    return h
-def recs(q):
-    out=[];i=0
-    while i<len(q):
-        if i+2>len(q): return None
-        kl=N(q[i:i+2]); i+=2
-        if i+kl+10>len(q): return None
-        k=bytes(q[i:i+kl]); i+=kl
-        t=N(q[i:i+8]); i+=8
-        vl=N(q[i:i+2]); i+=2
-        if i+vl>len(q): return None
-        out.append((k,t,bytes(q[i:i+vl]))); i+=vl
-    return out
-def runok(r,clock):
-    for k,t,v in r:
-        if not 1<=len(k)<=65535 or t>clock or t<0: return False
-    return all((a[0],-a[1])<(b[0],-b[1]) for a,b in zip(r,r[1:]))
-def hashes(q):
-    if len(q)%4: return None
-    return [N(q[i:i+4]) for i in range(0,len(q),4)]
-def rising(l): return all(a<b for a,b in zip(l,l[1:]))
-def listed(q):
-    if len(q)<8: return None
-    n=N(q[:8])
-    return q[8:8+n] if n<=len(q)-8 else None
-R=[(1,64),(64,1048576),(1,65536),(1,4096),(1,4096),(1,65536),(64,1048576),(9,16777216)]
-def sound(s):
-    if len(s)<72: return False
-    n=[N(s[8*i:8*i+8]) for i in range(9)]
-    if n[0]>1: return False
-    if any(not a<=v<=b for v,(a,b) in zip(n[1:],R)): return False
-    ser=n[0]==1; T,O,RH,WH,HE,HH,AB,AR=n[1:]
-    hist=88+8+16*T; act=hist+8+16*HE+4*HH; area=act+8+AB; pl=area+136+AR; w=24+8+O+8+4*RH+8+4*WH
-    if len(s)<pl+T*w: return False
-    clock=N(s[72:80]); counter=N(s[80:88])
-    q=listed(s[88:hist])
-    if q is None or len(q)%16: return False
-    rows=[(N(q[i:i+8]),N(q[i+8:i+16])) for i in range(0,len(q),16)]
-    q=listed(s[hist:act])
-    if q is None: return False
-    i=0;cs=[]
-    while i<len(q):
-        if i+16>len(q): return False
-        z=N(q[i+8:i+16])
-        if i+16+z>len(q) or z%4: return False
-        cs.append((N(q[i:i+8]),hashes(q[i+16:i+16+z]))); i+=16+z
-    if not rising([c[0] for c in cs]) or any(c[0]>clock or not rising(c[1]) for c in cs): return False
-    if len(cs)>(HE if ser else 0) or sum(len(c[1]) for c in cs)>HH: return False
-    q=listed(s[act:area])
-    if q is None: return False
-    A=recs(q)
-    if A is None or not runok(A,clock): return False
-    q=listed(s[area:pl])
-    if q is None: return False
-    i=0;runs=[];tot=0
-    while i<len(q):
-        m=listed(q[i:])
-        if m is None: return False
-        i+=8+len(m); tot+=len(m)
-        if len(m)<9 or bytes(m[:3])!=b'RUN' or N(m[3:5])!=1: return False
-        r=recs(m[9:])
-        if r is None or len(r)!=N(m[5:9]) or not runok(r,clock): return False
-        runs.append(r)
-    if len(runs)>16 or tot>AR: return False
-    older=[t for r in runs for _,t,_ in r]
-    if older and A and min(t for _,t,_ in A)<=max(older): return False
-    hs=[];rd=[]
-    for j in range(T):
-        p=s[pl+j*w:pl+j*w+w]; h=N(p[:8])
-        if h==0: continue
-        r=N(p[8:16]); mk=N(p[16:24])
-        if h>counter or r>clock or mk>1: return False
-        o=listed(p[24:32+O])
-        if o is None: return False
-        own=[];i=0
-        while i<len(o):
-            if i+2>len(o): return False
-            kl=N(o[i:i+2]); k=bytes(o[i+2:i+2+kl])
-            if i+4+kl>len(o): return False
-            vl=N(o[i+2+kl:i+4+kl]); i+=4+kl+vl
-            if i>len(o) or kl<1: return False
-            own.append(k)
-        if not rising(own): return False
-        a=listed(p[32+O:40+O+4*RH]); b=listed(p[40+O+4*RH:])
-        if a is None or b is None: return False
-        a=hashes(a); b=hashes(b)
-        if a is None or b is None or not rising(a) or not rising(b): return False
-        if not ser and (a or b): return False
-        if ser and mk==1 and b!=sorted(set(map(fnv,own))): return False
-        hs.append(h); rd.append(r)
-    if len(set(hs))!=len(hs): return False
-    return rows==[(t,rd.count(t)) for t in sorted(set(rd))]
-def build():
-    s=bytearray(848)
-    def num(at,v): s[at:at+8]=v.to_bytes(8,'big')
-    def four(at,v): s[at:at+4]=v.to_bytes(4,'big')
-    def two(at,v): s[at:at+2]=v.to_bytes(2,'big')
-    def text(at,x): s[at:at+len(x)]=x
-    for i,v in enumerate([1,3,64,2,2,2,3,64,60,5,3]): num(8*i,v)
-    for i,v in enumerate([32,3,1,4,1]): num(88+8*i,v)
-    num(144,44);num(152,4);num(160,4);four(168,9);num(172,5);num(180,8);four(188,7);four(192,9)
-    def rec(at,k,t,v): two(at,3);text(at+2,k);num(at+5,t);two(at+13,1);s[at+15]=v
-    num(196,48);rec(204,b'fir',4,113);rec(220,b'oak',5,114);rec(236,b'oak',4,115)
-    def im(at,k,t,v): num(at,25);text(at+8,b'RUN');two(at+11,1);four(at+13,1);rec(at+17,k,t,v)
-    num(268,66);im(276,b'oak',3,116);im(309,b'fir',2,117)
-    num(464,2);num(472,3);num(480,1);num(488,15);two(496,3);text(498,b'elm');two(501,1);s[503]=118;two(504,3);text(506,b'oak');two(509,0)
-    num(560,8);four(568,4);four(572,6);num(576,8)
-    h=sorted([fnv(b'elm'),fnv(b'oak')]);four(584,h[0]);four(588,h[1])
-    num(720,3);num(728,4);num(816,4);four(824,8)
-    return s
-S=build(); out=[]
-def rep(n,c,k): out.append(f'{n}: checked {c}, sound {k}')
-rep('as built',1,int(sound(S)))
-def changes(n,a,b):
-    k=0
-    for i in range(a,b):
-        o=S[i]
-        for v in range(256):
-            if v!=o:
-                S[i]=v; k+=sound(S)
-        S[i]=o
-    rep(n,(b-a)*255,k)
-for n,a,b in [('settings, clock and counter, one byte changed',0,88),('reader rows',88,144),('history',144,196),('active run',196,268),('run area',268,464),('an open transaction',464,592),('a free place',592,720),('a closed transaction',720,848)]: changes(n,a,b)
-rep('cut short',848,sum(sound(S[:i]) for i in range(848)))
-nx=lambda x:(x*1103515245+12345)%2147483648
-x=1;k=0
-for _ in range(10000):
-    s=build()
-    for _ in range(4):
-        x=nx(x); s[(x>>7)%848]=(x>>28)%8
-    k+=sound(s)
-rep('four bytes changed',10000,k)
-for n,f in [('all behind the settings',72),('all bytes',0)]:
-    x=2;k=0
-    for _ in range(10000):
-        s=build()
-        for i in range(f,848):
-            x=nx(x); s[i]=(x>>23)%256
-        k+=sound(s)
-    rep(n,10000,k)
-print('\n'.join(out))
+#!/usr/bin/env python3
+"""Judges damaged states: document 01's state rules, as a model in Python, beside our state check.
+
+  ./hostile_states.py | diff - ../crates/hostile/stdout    in oracle/; silent where both say the same
+
+The program crates/hostile builds a small sound state, damages it, and asks our state check which of the
+states are sound: every change of one byte, every cut, and pseudo-random damage. This script builds the
+same state, does the same damage, asks the model of state_model.py, and prints the same lines, one for each
+kind of damage. So the program's expected output is not only what the program says. It needs half a
+minute of processor time.
+
+The state is put together at offsets that stand here, not by the model's `write`, so that the model isn't
+only held to itself. The store that the model reads from it, written over it, must change nothing.
+"""
+import sys
+
+from state_model import fnv1a, sound, store, write
+
+LENGTH = 848
+
+# ---------------------------------------------------------------------------------------------
+# A sound state.
+
+
+def numbers(*ns):
+    return b''.join(n.to_bytes(8, 'big') for n in ns)
+
+
+def hashes(*ns):
+    return b''.join(n.to_bytes(4, 'big') for n in ns)
+
+
+def field(data):
+    """Its length in 2 bytes in front."""
+    return len(data).to_bytes(2, 'big') + data
+
+
+def listed(*parts):
+    """The number of bytes in front."""
+    used = b''.join(parts)
+    return numbers(len(used)) + used
+
+
+def version(key, time, value):
+    return field(key) + numbers(time) + field(value)
+
+
+def image(key, time, value):
+    """A run of one version, with its length in front."""
+    return listed(b'RUN', b'\0\1', b'\0\0\0\1', version(key, time, value))
+
+
+def built():
+    state = bytearray(LENGTH)
+
+    def put(at, data):
+        state[at:at + len(data)] = data
+
+    # Serializable; 3 transactions, each with 64 overlay bytes, 2 read and 2 write hashes; 2 history entries
+    # and 3 hashes; active run 64, run area 60.
+    put(0, numbers(1, 3, 64, 2, 2, 2, 3, 64, 60))
+    # The clock, and the counter.
+    put(72, numbers(5, 3))
+    # One reader at 3 and one at 4.
+    put(88, listed(numbers(3, 1), numbers(4, 1)))
+    # Commit 4 with the hash 9, and commit 5 with the hashes 7 and 9.
+    put(144, listed(numbers(4, 4), hashes(9), numbers(5, 8), hashes(7, 9)))
+    # The active run.
+    put(196, listed(version(b'fir', 4, b'q'), version(b'oak', 5, b'r'), version(b'oak', 4, b's')))
+    # The run area.
+    put(268, listed(image(b'oak', 3, b't'), image(b'fir', 2, b'u')))
+    # Transaction 2, read number 3, open: it put elm and deleted oak, and read two hashes.
+    put(464, numbers(2, 3, 1))
+    put(488, listed(field(b'elm'), field(b'v'), field(b'oak'), field(b'')))
+    put(560, listed(hashes(4, 6)))
+    put(576, listed(hashes(fnv1a(b'elm'), fnv1a(b'oak'))))
+    # A free place, at 592.
+    # Transaction 3, read number 4, closed: it read one hash.
+    put(720, numbers(3, 4, 0))
+    put(744, listed())
+    put(816, listed(hashes(8)))
+    put(832, listed())
+    return bytes(state)
+
+
+# ---------------------------------------------------------------------------------------------
+# Damage: each function yields the damaged states.
+
+
+def changed(state, start, end):
+    """Each byte from start to end, changed to each of the 255 others."""
+    for at in range(start, end):
+        for value in range(256):
+            if value != state[at]:
+                yield state[:at] + bytes([value]) + state[at + 1:]
+
+
+def cut(state):
+    for end in range(len(state)):
+        yield state[:end]
+
+
+def following(x):
+    """The next pseudo-random number."""
+    return (x * 1103515245 + 12345) % 2**31
+
+
+def struck(state, count):
+    """Four bytes anywhere become small numbers, count times."""
+    x = 1
+    for _ in range(count):
+        damaged = bytearray(state)
+        for _ in range(4):
+            x = following(x)
+            damaged[x // 2**7 % LENGTH] = x // 2**28 % 8
+        yield damaged
+
+
+def scattered(state, start, count):
+    """Every byte from start on becomes pseudo-random, count times."""
+    x = 2
+    for _ in range(count):
+        damaged = bytearray(state)
+        for at in range(start, LENGTH):
+            x = following(x)
+            damaged[at] = x // 2**23 % 256
+        yield damaged
+
+
+# ---------------------------------------------------------------------------------------------
+
+
+def report(name, states):
+    verdicts = [sound(state) for state in states]
+    print(f'{name}: checked {len(verdicts)}, sound {sum(verdicts)}')
+
+
+def main():
+    state = built()
+    found = store(state)
+    if found is not None and write(found, state) != state:
+        sys.exit('the store of the state as built, written over it, changes it')
+    report('as built', [state])
+    report('settings, clock and counter, one byte changed', changed(state, 0, 88))
+    report('reader rows', changed(state, 88, 144))
+    report('history', changed(state, 144, 196))
+    report('active run', changed(state, 196, 268))
+    report('run area', changed(state, 268, 464))
+    report('an open transaction', changed(state, 464, 592))
+    report('a free place', changed(state, 592, 720))
+    report('a closed transaction', changed(state, 720, 848))
+    report('cut short', cut(state))
+    report('four bytes changed', struck(state, 10000))
+    report('all behind the settings', scattered(state, 72, 10000))
+    report('all bytes', scattered(state, 0, 10000))
+    return 0
+
+
+if __name__ == '__main__':
+    sys.exit(main())
