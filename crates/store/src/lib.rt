@@ -98,6 +98,18 @@ pub fn delete(state: &mut [u8], handle: u64, key: &[u8]) -> Settled
     writing::delete(state, handle, key)
 }
 
+// Commits a transaction: 9, 3, 4, 6, 7, 5. A conflict closes it; after 5 or 7 it stays open.
+pub fn commit(state: &mut [u8], handle: u64) -> Committed
+    ensures { λ r. ⌜ _≡_ {A = Told × Bytes} (toldCommitted r, now (state .exit)) (toldOn (Call.commit handle) (now (state .entry))) ⌝ }
+{
+    if !state::sound_state(state) {
+        return Committed::Refused {
+            why: Refusal::Unsound,
+        };
+    }
+    committing::commit(state, handle)
+}
+
 // Ends a transaction, open or closed: 9, 3.
 pub fn end(state: &mut [u8], handle: u64) -> Settled
     ensures { λ r. ⌜ _≡_ {A = Told × Bytes} (toldSettled r, now (state .exit)) (toldOn (Call.end handle) (now (state .entry))) ⌝ }

@@ -1,0 +1,4 @@
+-- What a commit speaks of.
+pub mod Held
+pub mod Regions
+pub mod Storing
