@@ -1,0 +1,3 @@
+-- Laws of replies and calls by numbers.
+mod Telling
+mod Calling

@@ -1,0 +1,2 @@
+-- Replies by numbers, for hosts in other languages.
+pub mod Numbers
