@@ -81,6 +81,14 @@ module _ (st : Settings) (images : Bytes) (lengths : List ℕ) (b b′ : Bytes) 
   left : storeIn b′ ≡ there .0
   left = ap (λ (p : Reply × Bytes). storeIn (p .1)) (sym accepts) ∙ onBytes-store b call (lent-opening b st images lengths bytes) ∙ there .2
 
+  -- the bytes hold the store that was opened
+  pub opened-on-bytes : (s : Store) × (openStore st (imagesIn images lengths) (length b) ≡ go s) × (storeIn b′ ≡ s)
+  opened-on-bytes = (there .0, there .1, left)
+
+  -- every reply of any calls on them, refused ones included, is the paper's on that store
+  pub replies-on-bytes : (cs : List Call) → all (lent (length b′)) cs ≡ true → eventsOn cs b′ ≡ trace called (storeIn b′) cs
+  replies-on-bytes cs o = events-trace cs b′ o
+
   -- demand 3 on bytes: any calls on them as a host makes them, save an accepted opening anew
   pub serial-on-bytes : st .serializable ≡ true → (cs : List Call) → all (lent (length b′)) cs ≡ true → onOneStore cs ≡ true → SerialOn b′ cs
   serial-on-bytes mode cs o one =

@@ -11,17 +11,17 @@ use lib.Seq.{take-append-seam}
 use Rattle.paper.specs.Lists.{all, total}
 use Rattle.paper.specs.Keys.{Bytes, octets, Pair}
 use Rattle.paper.specs.Settings.{Settings}
-use Rattle.paper.specs.Calls.{Reply, done, began, found, answered, committed, refused, Call, opening, replyNumber, valueOut, keyOut}
+use Rattle.paper.specs.Calls.{Reply, done, began, found, answered, committed, refused, Call, opening, called, replyNumber, valueOut, keyOut}
 use Rattle.layout.specs.Layout.{storeIn, onBytes}
 use Rattle.layout.specs.Runs.{runOn, lent}
 use Rattle.reply.specs.Told.{Told, nothing, told}
 use Rattle.reply.specs.OnBytes.{toldOn, valueOn, keyOn}
-use Rattle.serial.specs.Trace.{Event, event, onOneStore}
+use Rattle.serial.specs.Trace.{Event, event, trace, onOneStore}
 use Rattle.serial.specs.Line.{accepted, line, stands, aloneAll, carriedAll}
 use Rattle.serial.specs.Serial.{contents}
 use Rattle.serial.proofs.Every.{Every}
 use Rattle.carried.specs.OnBytes.{eventsOn, SerialOn}
-use Rattle.carried.proofs.Carrying.{serial-on-bytes, never-nine-on-bytes}
+use Rattle.carried.proofs.Carrying.{replies-on-bytes, serial-on-bytes, never-nine-on-bytes}
 use Rattle.heard.specs.Heard.{Heard, replyRead, eventHeard, eventsHeard, callsHeard, Made, Session, over, next}
 use Rattle.heard.specs.Promise.{SerialHeard}
 
@@ -48,6 +48,11 @@ module _ (h : Heard) (b a key value : Bytes) (m : Made h b a key value) where
       ap (λ (p : Told × Bytes). replyRead (p .0) (h .key) (h .value)) (m .tells)
       ∙ ap₂ (λ (x y : Bytes). replyRead (told (onBytes (h .call) b .0)) x y) (m .keys) (m .values)
       ∙ read-off (onBytes (h .call) b .0) key value
+
+  -- and the out buffers hold what the paper writes there for that reply
+  pub outs-heard : (h .key ≡ keyOut (replyRead (h .told) (h .key) (h .value)) key) × (h .value ≡ valueOut (replyRead (h .told) (h .key) (h .value)) value)
+  unfolding keyOn valueOn
+  outs-heard = (m .keys ∙ ap (λ (r : Reply). keyOut r key) (sym reply-is), m .values ∙ ap (λ (r : Reply). valueOut r value) (sym reply-is))
 
   left-is : a ≡ onBytes (h .call) b .1
   unfolding toldOn
@@ -89,6 +94,10 @@ module _ (st : Settings) (images : Bytes) (lengths : List ℕ) (b b′ : Bytes) 
       ap₂ (λ (x : Reply) (y : Bytes). (x, y)) r (sym l)
 
   module _ (hs : List Heard) (a : Bytes) (s : Session b′ hs a) (o : all (lent (length b′)) (callsHeard hs) ≡ true) where
+    -- the replies are those of the paper's calls on the store that was opened
+    pub replies-heard : eventsHeard hs ≡ trace called (storeIn b′) (callsHeard hs)
+    replies-heard = heard-events b′ a hs s ∙ replies-on-bytes st images lengths b b′ bytes opens (callsHeard hs) o
+
     -- demand 3: any calls as a host makes them, refused ones included, save an accepted opening anew
     pub serial-heard : st .serializable ≡ true → onOneStore (callsHeard hs) ≡ true → SerialHeard b′ hs a
     serial-heard mode one =
