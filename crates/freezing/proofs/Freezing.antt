@@ -1,9 +1,9 @@
 -- How a freeze ends.
 -- Assumes nothing.
-use Prim.Native.Nat.{ℕ, _+_, _-_, _≤_}
+use Prim.Native.Nat.{_-_, _≤_}
 use native.Mathlib.Omega.{arith}
 use mathlib.Core.Path.{_≡_, refl, sym, ap, _∙_}
-use mathlib.Core.Bool.{Bool, true, false}
+use mathlib.Core.Bool.{true, false}
 use Rattle.paper.specs.Lists.{isEmpty}
 use Rattle.paper.specs.Keys.{Bytes, octets}
 use Rattle.paper.specs.Refusals.{noRoom, runArea, stop, go, must, whether, _>>_}

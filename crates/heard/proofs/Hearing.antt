@@ -5,11 +5,11 @@ use native.Mathlib.Omega.{arith}
 use mathlib.Core.Path.{_≡_, refl, sym, ap, ap₂, _∙_, subst}
 use mathlib.Core.Bool.{true}
 use mathlib.Core.List.{List, [], _∷_, _++_}
-use mathlib.Core.Option.{Option, none, some}
+use mathlib.Core.Option.{none, some}
 use lib.ListN.{length, take, drop}
 use lib.Seq.{take-append-seam}
 use Rattle.paper.specs.Lists.{all, total}
-use Rattle.paper.specs.Keys.{Bytes, octets, Pair}
+use Rattle.paper.specs.Keys.{Bytes, octets}
 use Rattle.paper.specs.Settings.{Settings}
 use Rattle.paper.specs.Calls.{Reply, done, began, found, answered, committed, refused, Call, opening, called, replyNumber, valueOut, keyOut}
 use Rattle.layout.specs.Layout.{storeIn, onBytes}
@@ -22,7 +22,7 @@ use Rattle.serial.specs.Serial.{contents}
 use Rattle.serial.proofs.Every.{Every}
 use Rattle.carried.specs.OnBytes.{eventsOn, SerialOn}
 use Rattle.carried.proofs.Carrying.{replies-on-bytes, serial-on-bytes, never-nine-on-bytes}
-use Rattle.heard.specs.Heard.{Heard, replyRead, eventHeard, eventsHeard, callsHeard, Made, Session, over, next}
+use Rattle.heard.specs.Heard.{Heard, replyRead, eventsHeard, callsHeard, Made, Session, over, next}
 use Rattle.heard.specs.Promise.{SerialHeard}
 
 -- ---- an answer is read off as it was given

@@ -3,7 +3,7 @@
 use mathlib.Core.Path.{_≡_, ap, subst}
 use mathlib.Core.Bool.{true, false}
 use Rattle.paper.specs.Keys.{Bytes}
-use Rattle.paper.specs.Refusals.{Refusal, unsound, Try, stop, go}
+use Rattle.paper.specs.Refusals.{Refusal, unsound, stop, go}
 use Rattle.paper.specs.Calls.{Reply, refused, Outcome, Call, tried, ofBytes, valueOut, keyOut}
 use Rattle.paper.specs.Sound.{sound}
 use Rattle.paper.proofs.SoundLaws.{After}
@@ -13,7 +13,7 @@ use Rattle.layout.specs.Runs.{isOpening}
 use Rattle.layout.proofs.LayoutLaws.{Fits}
 use Rattle.layout.proofs.SoundFits.{sound-fits}
 use Rattle.layout.proofs.CallBytes.{onBytes-refused, onBytes-done, onBytes-unsound}
-use Rattle.reply.specs.Told.{Told, told, why}
+use Rattle.reply.specs.Told.{told, why}
 use Rattle.reply.specs.OnBytes.{heard, toldOn, valueOn, keyOn}
 
 module _ (c : Call) (b : Bytes) where

@@ -1,8 +1,7 @@
 -- A contract that says what a reply tells determines the reply: two replies that tell the same are equal.
 -- Assumes nothing.
-use Prim.Native.Nat.{ℕ}
 use mathlib.Core.Path.{_≡_, refl, sym, ap, _∙_}
-use mathlib.Core.Option.{Option, none, some}
+use mathlib.Core.Option.{none, some}
 use Rattle.paper.specs.Refusals as paper
 use Rattle.reply.specs.Told.{Told, nothing, handle, value, pair, number, why, roomOf, refusalOf, toldSettled, toldBegun, toldGot, toldScanned, toldCommitted}
 use Rattle.reply.specs.declared.Room.{Room}

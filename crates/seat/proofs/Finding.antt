@@ -4,22 +4,21 @@ use Prim.Native.Nat.{ℕ, _+_, _*_, _<_, _≤_}
 use native.Mathlib.Omega.{arith}
 use mathlib.Core.Path.{_≡_, refl, sym, ap, _∙_, subst}
 use mathlib.Core.Bool.{Bool, true, false}
-use mathlib.Core.List.{List}
-use mathlib.Core.Option.{Option, none, some}
+use mathlib.Core.Option.{some}
 use lib.ListN.{length}
 use Rattle.paper.specs.Keys.{Bytes, octets}
 use Rattle.paper.specs.Image.{numberFrom}
 use Rattle.paper.specs.Lists.{isSome}
-use Rattle.paper.specs.Settings.{Settings, inRanges, stateLength}
-use Rattle.paper.specs.Store.{Txn, Store, findTxn}
+use Rattle.paper.specs.Settings.{Settings, inRanges}
+use Rattle.paper.specs.Store.{Store, findTxn}
 use Rattle.raw.specs.Bytes.{part}
 use Rattle.layout.specs.Codec.{flagNumber}
-use Rattle.layout.specs.Offsets.{startPlaces, stride, placeAt, placeRead, placeMark}
+use Rattle.layout.specs.Offsets.{startPlaces, stride, placeAt}
 use Rattle.layout.specs.Layout.{settingsIn, readStore, storeIn, soundState}
 use Rattle.paper.proofs.SoundLaws.{rules}
 use Rattle.layout.proofs.SoundState.{sound-read, sound-enough, sound-in}
 use Rattle.layout.proofs.Inside as inside
-use Rattle.layout.proofs.Changes.{places-end, place-end}
+use Rattle.layout.proofs.Changes.{place-end}
 use Rattle.table.specs.Places.{foundIn}
 use Rattle.table.specs.declared.Found.{Found}
 use Rattle.table.specs.declared.Found.the-variants.{At, Nothing}
@@ -29,7 +28,6 @@ use Rattle.settings.specs.Shapes.{shapeOf}
 use Rattle.settings.proofs.Shapes.{Shaped, shaped}
 use Rattle.settings.proofs.Reading.{sound-ready, ready-some}
 use Rattle.seat.specs.Seats.{Seated, SeatTold}
-use Rattle.seat.specs.declared.Seat.{Seat}
 use Rattle.seat.specs.declared.Seat.the-variants.{Open, Closed, Missing}
 
 -- the mark is 1 exactly where the transaction is open

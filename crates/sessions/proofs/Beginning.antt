@@ -8,8 +8,8 @@ use mathlib.Core.List.{List, [], _++_}
 use mathlib.Core.Option.{Option, none, some}
 use lib.ListN.{length, set, length-set, take, drop}
 use lib.Seq.{getD-set-same}
-use lib.Dec.{leb, ltb}
-use borrow.Author.Tests.{lt-ltb, le-ltb, ltb-true, ltb-false}
+use lib.Dec.{ltb}
+use borrow.Author.Tests.{lt-ltb, le-ltb}
 use Rattle.paper.specs.Keys.{Bytes, octets}
 use Rattle.paper.specs.Image.{bigEndian, numberFrom}
 use Rattle.paper.specs.Readers.{Row, readersAt, addReader}
@@ -18,15 +18,15 @@ use Rattle.paper.specs.Room.{placeFree, tableFits}
 use Rattle.paper.specs.Settings.{Settings, mostNumber, stateLength}
 use Rattle.paper.specs.Sound.{sound}
 use Rattle.paper.specs.Store.{Txn, makeTxn, Store, withCounter, withPlaces, withReaders, seat, txnsOf}
-use Rattle.paper.specs.Calls.{began, Outcome, outcome, newTxn, begun, tryBegin, Call, tried, ofBytes}
+use Rattle.paper.specs.Calls.{began, outcome, newTxn, begun, tryBegin, Call, tried, ofBytes}
 use Rattle.paper.proofs.ImageLaws.{length-bigEndian}
 use Rattle.raw.specs.Bytes.{part, over}
 use Rattle.raw.proofs.Parts.{length-part}
 use Rattle.raw.proofs.Over.{length-over, part-over-before, part-over-after, over-lent}
 use Rattle.layout.specs.Codec.{Slot}
-use Rattle.layout.specs.Offsets.{startCounter, startRows, widthRows, startPlaces, stride, placeAt, placePart, rowsPart}
+use Rattle.layout.specs.Offsets.{startRows, widthRows, startPlaces, stride, placeAt, placePart, rowsPart}
 use Rattle.layout.specs.Layout.{readStore, storeIn, soundState, writeStore, listed, rowStream, placeSlot}
-use Rattle.layout.proofs.LayoutLaws.{OkRows, OkPlace, Fits, place-laws, place-width}
+use Rattle.layout.proofs.LayoutLaws.{OkPlace, Fits, place-laws, place-width}
 use Rattle.layout.proofs.SoundState.{sound-read, sound-enough, sound-in}
 use Rattle.layout.proofs.SoundFits.{sound-fits}
 use Rattle.layout.proofs.Inside as inside

@@ -1,6 +1,6 @@
 -- How an end ends, and the bytes that it writes.
 -- Assumes nothing.
-use Prim.Native.Nat.{ℕ, _+_, _-_, _<_, _≤_}
+use Prim.Native.Nat.{ℕ, _+_, _-_, _≤_}
 use native.Mathlib.Omega.{arith}
 use mathlib.Core.Path.{_≡_, refl, sym, ap, ap₂, _∙_, subst}
 use mathlib.Core.Bool.{Bool, true}
@@ -11,17 +11,17 @@ use Rattle.paper.specs.Keys.{Bytes, octets}
 use Rattle.paper.specs.Image.{bigEndian}
 use Rattle.paper.specs.Readers.{Row, removeReader}
 use Rattle.paper.specs.Refusals.{noHandle, stop, go, must, _>>=_, _>>_}
-use Rattle.paper.specs.Settings.{Settings, stateLength}
+use Rattle.paper.specs.Settings.{Settings}
 use Rattle.paper.specs.Sound.{sound}
 use Rattle.paper.specs.Store.{Txn, Store, withPlaces, withReaders, findTxn, putTxn}
-use Rattle.paper.specs.Calls.{done, Outcome, known, inTxn, ended, tryEnd, Call, tried, ofBytes}
+use Rattle.paper.specs.Calls.{done, inTxn, ended, tryEnd, Call, tried, ofBytes}
 use Rattle.paper.proofs.ImageLaws.{length-bigEndian}
 use Rattle.raw.specs.Bytes.{part, over}
 use Rattle.raw.proofs.Parts.{length-part}
 use Rattle.raw.proofs.Over.{length-over, part-over-before, over-lent}
-use Rattle.layout.specs.Offsets.{startRows, widthRows, stride, placeAt, rowsPart}
+use Rattle.layout.specs.Offsets.{startRows, rowsPart}
 use Rattle.layout.specs.Layout.{storeIn, soundState, writeStore, listed, rowStream}
-use Rattle.layout.proofs.LayoutLaws.{OkRows, Fits}
+use Rattle.layout.proofs.LayoutLaws.{Fits}
 use Rattle.layout.proofs.SoundState.{sound-read, sound-enough, sound-in}
 use Rattle.layout.proofs.SoundFits.{sound-fits}
 use Rattle.layout.proofs.Inside as inside

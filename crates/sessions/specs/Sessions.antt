@@ -5,7 +5,7 @@ use mathlib.Core.Path.{_≡_}
 use mathlib.Core.Bool.{Bool, true}
 use Rattle.paper.specs.Keys.{Bytes}
 use Rattle.paper.specs.Refusals.{go}
-use Rattle.paper.specs.Calls.{Outcome, began, begun, tryBegin, ended}
+use Rattle.paper.specs.Calls.{began, begun, tryBegin, ended}
 use Rattle.layout.specs.Offsets.{placeAt, rowsPart}
 use Rattle.layout.specs.Layout.{storeIn, soundState, writeStore}
 use Rattle.settings.specs.Shapes.{shapeOf}

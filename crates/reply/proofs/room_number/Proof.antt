@@ -1,6 +1,6 @@
 -- Each case has its number.
 -- Assumes nothing.
-use mathlib.Core.Path.{sym, ap, _∙_}
+use mathlib.Core.Path.{sym, ap}
 use Rattle.paper.specs.Refusals.{roomNumber}
 use Rattle.reply.specs.declared.Room.{Room}
 use Rattle.reply.specs.Told.{roomOf}

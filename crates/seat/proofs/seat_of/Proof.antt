@@ -1,9 +1,6 @@
 -- The handle's place is searched; what stands there says how its transaction is.
 -- Assumes nothing.
-use Prim.Native.Nat.{ℕ, _+_, _*_, _≤_, _<_}
 use native.Mathlib.Omega.{arith}
-use mathlib.Core.Path.{_≡_}
-use lib.ListN.{length}
 use borrow.Author.Needs.{needs}
 use Rattle.raw.proofs.Octets.{octets-of}
 use Rattle.seat.proofs.Finding.{shape-room, seat-zero, seat-missing, seat-inside, seat-open, seat-closed}

@@ -1,6 +1,5 @@
 -- The settings of a sound state are read, and put its parts.
 -- Assumes nothing.
-use mathlib.Core.Path.{_≡_, sym, ap, _∙_}
 use Rattle.seat.proofs.Finding.{settings-there, settings-ranged, shape-there}
 use Rattle.seat.proofs.shape_in.Statement.{statement}
 use Rattle.seat.proofs.shape_in.Tie as tie

@@ -1,11 +1,8 @@
 -- The handle's transaction leaves, open or closed.
 -- Assumes nothing.
-use native.Mathlib.Omega.{arith}
 use borrow.Author.Needs.{needs}
-use mathlib.Core.Path.{_≡_, subst}
+use mathlib.Core.Path.{subst}
 use mathlib.Core.Bool.{true, false}
-use Rattle.paper.specs.Keys.{octets}
-use Rattle.raw.proofs.Octets.{octets-of}
 use Rattle.layout.specs.Layout.{storeIn}
 use Rattle.seat.specs.Seats.{Seated, SeatTold}
 use Rattle.sessions.proofs.Ending.{no-handle, ends-told}
