@@ -19,7 +19,8 @@ pub enum Error {
     Closed,
     /// 5: there is no room. The transaction stays open and may try again.
     NoRoom,
-    /// 6: a commit since the transaction's read number wrote what it has read. The transaction is closed now.
+    /// 6: a commit above the transaction's read number wrote a key whose hash it has read. The transaction is now
+    /// closed.
     Conflict,
     /// 7: the clock, the handles or the readers of the clock have come to 2^64-1. The transaction stays open.
     CounterFull,

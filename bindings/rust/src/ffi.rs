@@ -9,9 +9,10 @@
 //! as it has room for, and what stands behind them stays. Three numbers are room enough for every call.
 //!
 //! All `unsafe` code of this crate is in this file. What its calls owe the archive is said in `ngalovuki.h`: no pointer
-//! is null, pointers to numbers are aligned, and a buffer that may be written overlaps no other buffer of the call and
-//! is used by no other thread meanwhile. References to slices grant all of it: they are never null, not even to empty
-//! slices, they are aligned and valid for their length, and a `&mut` is the only way to its bytes as long as it lives.
+//! is null, pointers to numbers are aligned, a buffer that may be written overlaps no other buffer of the call, and
+//! while the call runs no other thread uses it or writes the others. References to slices grant all of it: they are
+//! never null, not even to empty slices, they are aligned and valid for their length, a `&mut` is the only way to its
+//! bytes as long as it lives, and nobody writes what a `&` is lent for.
 #![allow(unsafe_code)]
 
 /// The functions of the archive, in the order of `ngalovuki.h`.

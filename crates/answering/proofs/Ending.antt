@@ -1,33 +1,16 @@
--- The checks that get and scan share, 3, 4 and the two of 5, and what a call that ends by them is on a state's bytes.
+-- The two checks of 5 that get and scan share, and what a call that ends by them is on a state's bytes.
 -- Assumes nothing.
 use mathlib.Core.Path.{_≡_, refl, ap, ap₂, _∙_}
 use mathlib.Core.Bool.{Bool, true, false}
-use mathlib.Core.Option.{none, some}
-use Prim.Native.Nat.{ℕ}
 use Rattle.paper.specs.Keys.{Bytes}
-use Rattle.paper.specs.Refusals.{Refusal, noHandle, isClosed, stop, go, must, _>>=_, _>>_}
-use Rattle.paper.specs.Store.{Txn, Store, findTxn}
-use Rattle.paper.specs.Sound.{sound}
-use Rattle.paper.specs.Calls.{Reply, outcome, inTxn, inOpenTxn, Call, tried}
+use Rattle.paper.specs.Refusals.{Refusal, go, must, _>>_}
+use Rattle.paper.specs.Store.{Store}
+use Rattle.paper.specs.Calls.{Reply, outcome, Call, tried}
 use Rattle.layout.specs.Layout.{writeStore, storeIn}
 use Rattle.reply.specs.Told.{Told, told}
 use Rattle.reply.specs.OnBytes.{toldOn, valueOn, keyOn}
 use Rattle.reply.proofs.Ends.{refused-told, refused-value, refused-key, done-told, done-value, done-key}
 use Rattle.answering.specs.Rests.{toldBy, stateBy, valueBy, keyBy}
-
--- ---- 3, 4
-module _ (s : Store) (h : ℕ) (k : sound s ≡ true) where
-  pub no-txn : findTxn h (s .places) ≡ none → inOpenTxn s h ≡ stop noHandle
-  unfolding inOpenTxn inTxn must _>>_ _>>=_
-  no-txn e = rw (k, e)
-
-  pub closed-txn : (t : Txn) → findTxn h (s .places) ≡ some t → t .open? ≡ false → inOpenTxn s h ≡ stop isClosed
-  unfolding inOpenTxn inTxn must _>>_ _>>=_
-  closed-txn t e f = rw (k, e, f)
-
-  pub open-txn : (t : Txn) → findTxn h (s .places) ≡ some t → t .open? ≡ true → inOpenTxn s h ≡ go t
-  unfolding inOpenTxn inTxn must _>>_ _>>=_
-  open-txn t e f = rw (k, e, f)
 
 -- ---- 5: two checks, and then a reply with a store
 module _ (c : Call) (b : Bytes) (r q : Refusal) (a : Reply) (x : Store) (after : Bytes) where

@@ -33,7 +33,8 @@ use Rattle.answering.specs.Places.{TakenAt, readFits, noted}
 use Rattle.answering.specs.Views.{Shows}
 use Rattle.answering.specs.Rests.{restOfGet, GetEnded}
 use Rattle.answering.proofs.Seating.{taken, txn-there, fits-there, noted-there}
-use Rattle.answering.proofs.Ending.{no-txn, closed-txn, open-txn, rest-told, rest-value, both-told}
+use Rattle.seat.proofs.Entering.{enter-missing, enter-closed, enter-open}
+use Rattle.answering.proofs.Ending.{rest-told, rest-value, both-told}
 
 -- ---- 1, 2
 key-empty : (k : Bytes) → length k ≡ 0 → goodKeyValue k [] ≡ stop emptyKey
@@ -94,13 +95,13 @@ module _ (b : Bytes) (o : octets b ≡ true) (h : soundState b ≡ true) (handle
   module _ (a : Seat) (A : SeatTold (storeIn b) handle a) where
     -- 3
     pub get-missing : a ≡ Missing → GetTold (why noHandle) b out
-    get-missing e = refused-so noHandle (not-open s handle k (length out) noHandle (no-txn s handle (sound-in b h) (subst (SeatTold s handle) e A)))
+    get-missing e = refused-so noHandle (not-open s handle k (length out) noHandle (enter-missing s handle (sound-in b h) (subst (SeatTold s handle) e A)))
 
     -- 4
     pub get-closed : (at read : ℕ) → a ≡ Closed at read → GetTold (why isClosed) b out
     get-closed at read e =
         let S : Seated s handle at read false = subst (SeatTold s handle) e A in
-        refused-so isClosed (not-open s handle k (length out) isClosed (closed-txn s handle (sound-in b h) (S .txn) (S .found) (S .marked)))
+        refused-so isClosed (not-open s handle k (length out) isClosed (enter-closed s handle (sound-in b h) (S .txn) (S .found) (S .marked)))
 
     module _ (at read : ℕ) (e : a ≡ Open at read) where
       pub seated : Seated (storeIn b) handle at read true
@@ -110,7 +111,7 @@ module _ (b : Bytes) (o : octets b ≡ true) (h : soundState b ≡ true) (handle
       t = seated .txn
 
       opened : inOpenTxn s handle ≡ go t
-      opened = open-txn s handle (sound-in b h) t (seated .found) (seated .marked)
+      opened = enter-open s handle (sound-in b h) t (seated .found) (seated .marked)
 
       -- 1
       pub get-empty : length k ≡ 0 → GetTold (why emptyKey) b out

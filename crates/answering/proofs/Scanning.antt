@@ -36,7 +36,8 @@ use Rattle.answering.specs.Places.{TakenAt, readFits, noted}
 use Rattle.answering.specs.Views.{Shows}
 use Rattle.answering.specs.Rests.{restOfScan, ScanEnded}
 use Rattle.answering.proofs.Seating.{taken, txn-there, fits-there, noted-there}
-use Rattle.answering.proofs.Ending.{no-txn, closed-txn, open-txn, rest-told, rest-value, rest-key, both-told}
+use Rattle.seat.proofs.Entering.{enter-missing, enter-closed, enter-open}
+use Rattle.answering.proofs.Ending.{rest-told, rest-value, rest-key, both-told}
 
 -- ---- the checks one after the other
 module _ (s : Store) (h : ℕ) (lo hi : Bound) (kr vr : ℕ) where
@@ -82,13 +83,13 @@ module _ (b : Bytes) (o : octets b ≡ true) (h : soundState b ≡ true) (handle
   module _ (a : Seat) (A : SeatTold (storeIn b) handle a) where
     -- 3
     pub scan-missing : a ≡ Missing → ScanTold (why noHandle) b keys values
-    scan-missing e = refused-so noHandle (not-open s handle lo hi (length keys) (length values) noHandle (no-txn s handle (sound-in b h) (subst (SeatTold s handle) e A)))
+    scan-missing e = refused-so noHandle (not-open s handle lo hi (length keys) (length values) noHandle (enter-missing s handle (sound-in b h) (subst (SeatTold s handle) e A)))
 
     -- 4
     pub scan-closed : (at read : ℕ) → a ≡ Closed at read → ScanTold (why isClosed) b keys values
     scan-closed at read e =
         let S : Seated s handle at read false = subst (SeatTold s handle) e A in
-        refused-so isClosed (not-open s handle lo hi (length keys) (length values) isClosed (closed-txn s handle (sound-in b h) (S .txn) (S .found) (S .marked)))
+        refused-so isClosed (not-open s handle lo hi (length keys) (length values) isClosed (enter-closed s handle (sound-in b h) (S .txn) (S .found) (S .marked)))
 
     module _ (at read : ℕ) (e : a ≡ Open at read) (z : Shape) (f : z ≡ shapeOf (storeIn b .settings)) where
       seated : Seated (storeIn b) handle at read true
@@ -98,7 +99,7 @@ module _ (b : Bytes) (o : octets b ≡ true) (h : soundState b ≡ true) (handle
       t = seated .txn
 
       opened : inOpenTxn s handle ≡ go t
-      opened = open-txn s handle (sound-in b h) t (seated .found) (seated .marked)
+      opened = enter-open s handle (sound-in b h) t (seated .found) (seated .marked)
 
       -- the place is a transaction's
       pub scan-taken : TakenAt z b at

@@ -1,2 +1,3 @@
 -- Laws of a handle's transaction.
 pub mod Finding
+pub mod Entering

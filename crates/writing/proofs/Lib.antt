@@ -1,6 +1,5 @@
 -- Laws of put and delete.
 pub mod Checks
-pub mod Entering
 pub mod Putting
 pub mod Placing
 pub mod Telling

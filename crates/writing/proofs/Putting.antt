@@ -13,7 +13,7 @@ use Rattle.paper.specs.Room.{overlayFits, setFits}
 use Rattle.paper.specs.Calls.{done, Outcome, outcome, goodKeyValue, inOpenTxn, tryPut, Call, tried}
 use Rattle.txn.specs.Place.{roomsOf}
 use Rattle.writing.specs.Writes.{written, roomFor}
-use Rattle.writing.proofs.Entering.{enter-missing, enter-closed, enter-open}
+use Rattle.seat.proofs.Entering.{enter-missing, enter-closed, enter-open}
 
 -- what follows when the transaction is entered
 abbrev room-then : Store → Txn → Try Outcome
