@@ -17,8 +17,8 @@ import sys
 
 HERE = pathlib.Path(__file__).resolve().parent
 library = ctypes.CDLL(str(HERE / 'target/libprobe.so'))
-library.ngalovuki_verdict.argtypes = [ctypes.c_char_p, ctypes.c_uint64]
-library.ngalovuki_verdict.restype = ctypes.c_uint64
+library.probe_verdict.argtypes = [ctypes.c_char_p, ctypes.c_uint64]
+library.probe_verdict.restype = ctypes.c_uint64
 
 
 class Cut(Exception):
@@ -106,7 +106,7 @@ def main():
         image = some_image(rng)
         if rng.random() < 0.8:
             image = damaged(rng, image)
-        right, said = model(image), library.ngalovuki_verdict(image, len(image))
+        right, said = model(image), library.probe_verdict(image, len(image))
         if right != said:
             print(f'image {image.hex()}: document 01 {right}, ours {said}')
             return 1

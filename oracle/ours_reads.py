@@ -5,7 +5,7 @@ of src/scans.rs, and a line for each read on standard output.
   ./build_ours                                            first; it takes the proofs along
   ./compare_reads.py SEED COUNT --program ./ours_reads.py
 
-Every answer comes from crate `probe`'s `ngalovuki_scan` or `ngalovuki_get`. This file packs the runs and
+Every answer comes from crate `probe`'s `probe_scan` or `probe_get`. This file packs the runs and
 the own writes into bytes, calls them by ctypes, and asks a scan for answer after answer as document 01
 says: 'from the same upper bound and the last key as an excluded lower bound'. The read set that the
 language asks for is the hashes of the keys handed out; they are computed here, not by our library.
@@ -21,10 +21,10 @@ library = ctypes.CDLL(str(HERE / 'target/libprobe.so'))
 numbers, byte, bytes_ = ctypes.c_uint64, ctypes.c_uint8, ctypes.c_char_p
 pointer = ctypes.POINTER(numbers)
 view = [bytes_, numbers, pointer, numbers, numbers, numbers, numbers, numbers]
-library.ngalovuki_scan.argtypes = view + [byte, bytes_, numbers, byte, bytes_, numbers, pointer, numbers]
-library.ngalovuki_scan.restype = numbers
-library.ngalovuki_get.argtypes = view + [bytes_, numbers, pointer, numbers]
-library.ngalovuki_get.restype = numbers
+library.probe_scan.argtypes = view + [byte, bytes_, numbers, byte, bytes_, numbers, pointer, numbers]
+library.probe_scan.restype = numbers
+library.probe_get.argtypes = view + [bytes_, numbers, pointer, numbers]
+library.probe_get.restype = numbers
 
 
 def short(n):
@@ -53,14 +53,14 @@ class View:
         return (self.bytes, len(self.bytes), self.places, 34, self.runs, self.start, len(self.bytes), self.read)
 
     def get(self, key):
-        if not library.ngalovuki_get(*self.asked(), key, len(key), self.out, 4):
+        if not library.probe_get(*self.asked(), key, len(key), self.out, 4):
             return None
         return self.bytes[self.out[2]:self.out[3]]
 
     def first(self, lower, upper):
         """The first pair within the bounds, or None."""
         low, high = ((KINDS[kind], key, len(key)) for kind, key in (lower, upper))
-        if not library.ngalovuki_scan(*self.asked(), *low, *high, self.out, 4):
+        if not library.probe_scan(*self.asked(), *low, *high, self.out, 4):
             return None
         ks, ke, vs, ve = self.out
         return self.bytes[ks:ke], self.bytes[vs:ve]

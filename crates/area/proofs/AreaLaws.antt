@@ -35,7 +35,7 @@ use Rattle.area.specs.Told.{othersOf, withRun, areaTold, imagesTold, Ima
 use Rattle.area.specs.declared.check.Others.{Others}
 use Rattle.area.specs.declared.check.Area.{Area}
 use Rattle.area.specs.declared.check.Area.the-variants as area
-use Rattle.area.proofs.Many.{many-end, many-step, many-cut}
+use Rattle.layout.proofs.Many.{many-end, many-step, many-cut}
 use Rattle.area.proofs.Sizing.{first-lift, sized-cut, sized-here}
 use Rattle.area.proofs.RunsSound.{Sturdy, runs-in-time}
 use Rattle.area.proofs.Known.{beyond, beyond-none, beyond-on, all-beyond, others-reverse}

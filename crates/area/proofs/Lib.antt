@@ -1,4 +1,3 @@
-pub mod Many
 pub mod Sizing
 pub mod RunsSound
 pub mod ActiveLaws

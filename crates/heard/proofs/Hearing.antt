@@ -1,53 +1,33 @@
 -- What a host hears is what the calls answer: demand 3, and that no call answers 9.
 -- Assumes nothing.
 use Prim.Native.Nat.{ℕ}
-use native.Mathlib.Omega.{arith}
 use mathlib.Core.Path.{_≡_, refl, sym, ap, ap₂, _∙_, subst}
 use mathlib.Core.Bool.{true}
-use mathlib.Core.List.{List, [], _∷_, _++_}
-use mathlib.Core.Option.{none, some}
-use lib.ListN.{length, take, drop}
-use lib.Seq.{take-append-seam}
+use mathlib.Core.List.{List, [], _∷_}
+use lib.ListN.{length}
 use Rattle.paper.specs.Lists.{all, total}
 use Rattle.paper.specs.Keys.{Bytes, octets}
 use Rattle.paper.specs.Settings.{Settings}
-use Rattle.paper.specs.Calls.{Reply, done, began, found, answered, committed, refused, Call, opening, called, replyNumber, valueOut, keyOut}
+use Rattle.paper.specs.Calls.{Reply, done, refused, Call, opening, called, replyNumber, valueOut, keyOut}
 use Rattle.layout.specs.Layout.{storeIn, onBytes}
 use Rattle.layout.specs.Runs.{runOn, lent}
 use Rattle.reply.specs.Told.{Told, nothing, told}
 use Rattle.reply.specs.OnBytes.{toldOn, valueOn, keyOn}
+use Rattle.reply.specs.Read.{replyRead}
+use Rattle.reply.proofs.Reading.{reply-read, bytes-left, told-done}
 use Rattle.serial.specs.Trace.{Event, event, trace, onOneStore}
 use Rattle.serial.specs.Line.{accepted, line, stands, aloneAll, carriedAll}
 use Rattle.serial.specs.Serial.{contents}
 use Rattle.serial.proofs.Every.{Every}
 use Rattle.carried.specs.OnBytes.{eventsOn, SerialOn}
 use Rattle.carried.proofs.Carrying.{replies-on-bytes, serial-on-bytes, never-nine-on-bytes}
-use Rattle.heard.specs.Heard.{Heard, replyRead, eventsHeard, callsHeard, Made, Session, over, next}
+use Rattle.heard.specs.Heard.{Heard, eventsHeard, callsHeard, Made, Session, over, next}
 use Rattle.heard.specs.Promise.{SerialHeard}
-
--- ---- an answer is read off as it was given
-taken : (b out : Bytes) → take (length b) (b ++ drop (length b) out) ≡ b
-taken b out = take-append-seam b (drop (length b) out)
-
-read-off : (r : Reply) (key value : Bytes) → replyRead (told r) (keyOut r key) (valueOut r value) ≡ r
-unfolding replyRead told keyOut valueOut
-read-off done key value = refl
-read-off (began h n) key value = refl
-read-off (found none) key value = refl
-read-off (found (some b)) key value = ap (λ (x : Bytes). found (some x)) (taken b value)
-read-off (answered none) key value = refl
-read-off (answered (some p)) key value = ap₂ (λ (x y : Bytes). answered (some (record { key = x; value = y }))) (taken (p .key) key) (taken (p .value) value)
-read-off (committed n) key value = refl
-read-off (refused r) key value = refl
 
 -- ---- one call
 module _ (h : Heard) (b a key value : Bytes) (m : Made h b a key value) where
   reply-is : replyRead (h .told) (h .key) (h .value) ≡ onBytes (h .call) b .0
-  unfolding toldOn keyOn valueOn
-  reply-is =
-      ap (λ (p : Told × Bytes). replyRead (p .0) (h .key) (h .value)) (m .tells)
-      ∙ ap₂ (λ (x y : Bytes). replyRead (told (onBytes (h .call) b .0)) x y) (m .keys) (m .values)
-      ∙ read-off (onBytes (h .call) b .0) key value
+  reply-is = reply-read (h .call) b a (h .told) (m .tells) (h .key) (h .value) key value (m .keys) (m .values)
 
   -- and the out buffers hold what the paper writes there for that reply
   pub outs-heard : (h .key ≡ keyOut (replyRead (h .told) (h .key) (h .value)) key) × (h .value ≡ valueOut (replyRead (h .told) (h .key) (h .value)) value)
@@ -55,8 +35,7 @@ module _ (h : Heard) (b a key value : Bytes) (m : Made h b a key value) where
   outs-heard = (m .keys ∙ ap (λ (r : Reply). keyOut r key) (sym reply-is), m .values ∙ ap (λ (r : Reply). valueOut r value) (sym reply-is))
 
   left-is : a ≡ onBytes (h .call) b .1
-  unfolding toldOn
-  left-is = ap (λ (p : Told × Bytes). p .1) (m .tells)
+  left-is = bytes-left (h .call) b a (h .told) (m .tells)
 
 -- ---- all of them
 heard-events : (b a : Bytes) (hs : List Heard) → Session b hs a → eventsHeard hs ≡ eventsOn (callsHeard hs) b
@@ -73,15 +52,6 @@ heard-left b a (h ∷ hs) (next g gs d c e key value m s) =
     heard-left c a hs s ∙ ap (λ (x : Bytes). runOn (callsHeard hs) x .1) (left-is h b c key value m)
 
 -- ---- from an accepted opening on
-told-done : (r : Reply) → nothing ≡ told r → r ≡ done
-unfolding told
-told-done done e = refl
-told-done (began h n) e = absurd (let z : _≡_ {A = ℕ} 0 1 = cc in omega arith)
-told-done (found b) e = absurd (let z : _≡_ {A = ℕ} 0 1 = cc in omega arith)
-told-done (answered p) e = absurd (let z : _≡_ {A = ℕ} 0 1 = cc in omega arith)
-told-done (committed n) e = absurd (let z : _≡_ {A = ℕ} 0 1 = cc in omega arith)
-told-done (refused r) e = absurd (let z : _≡_ {A = ℕ} 0 1 = cc in omega arith)
-
 -- st, images, lengths: what the host opened with; b: what the lent buffer held before, b′: what the opening left
 module _ (st : Settings) (images : Bytes) (lengths : List ℕ) (b b′ : Bytes) (bytes : octets images ≡ true)
     (accepts : _≡_ {A = Told × Bytes} (nothing, b′) (toldOn (opening st images lengths (length b)) b)) where

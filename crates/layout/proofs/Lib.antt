@@ -1,5 +1,6 @@
 -- Laws of the layout: of the combinators, of each part, of a whole store, of calls on bytes, of where each part lies, and of changes.
 pub mod Streams
+pub mod Many
 pub mod Images
 pub mod Slots
 pub mod LayoutLaws

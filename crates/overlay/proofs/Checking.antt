@@ -22,7 +22,7 @@ use Rattle.layout.proofs.Streams.{Got}
 use Rattle.layout.proofs.LayoutLaws.{OkPair, pair-laws}
 use Rattle.overlay.specs.Overlay.{pair, orderly, isOverlay}
 use Rattle.overlay.specs.Entries.{span, EntryAt}
-use Rattle.overlay.proofs.Many.{many-end, many-step, many-cut}
+use Rattle.layout.proofs.Many.{many-end, many-step, many-cut}
 
 -- the entries, if they could be read, rise from a key and are sound
 abbrev pub onward : Bytes → Option (List Pair) → Bool

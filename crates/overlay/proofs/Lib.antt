@@ -1,6 +1,5 @@
 -- Laws of packed own writes.
 pub mod Fields
-pub mod Many
 pub mod Pairs
 pub mod Checking
 pub mod Finding

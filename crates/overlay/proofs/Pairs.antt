@@ -25,7 +25,7 @@ use Rattle.layout.proofs.Streams.{Formed, All, many-laws}
 use Rattle.layout.proofs.LayoutLaws.{OkPair, pair-laws}
 use Rattle.layout.proofs.Sizes.{pair-long, all-long}
 use Rattle.overlay.specs.Overlay.{orEmpty, pairsIn, orderly, isOverlay}
-use Rattle.overlay.proofs.Many.{many-end, many-step, many-cut}
+use Rattle.layout.proofs.Many.{many-end, many-step, many-cut}
 
 -- ---- sizes
 -- an entry as bytes

@@ -93,7 +93,7 @@ fn tell(a: Answer, out: &mut [u64]) -> u64
 
 // One answer of a scan: 1 with the places of its key and its value in s, or 0 for the end.
 #[no_mangle]
-pub extern "C" fn ngalovuki_scan(
+pub extern "C" fn probe_scan(
     s: &[u8],
     places: &[u64],
     runs: usize,
@@ -116,7 +116,7 @@ pub extern "C" fn ngalovuki_scan(
 
 // A get: 1 with the place of the value in s, or 0 where the key is absent.
 #[no_mangle]
-pub extern "C" fn ngalovuki_get(
+pub extern "C" fn probe_get(
     s: &[u8],
     places: &[u64],
     runs: usize,
@@ -136,7 +136,7 @@ pub extern "C" fn ngalovuki_get(
 
 // The verdict on an image by document 01's numbers: 0 for a good one, 10 or 11.
 #[no_mangle]
-pub extern "C" fn ngalovuki_verdict(image: &[u8]) -> u64
+pub extern "C" fn probe_verdict(image: &[u8]) -> u64
     ensures { λ r. ⌜ r ≡ verdictNumber (verdict (now (image .entry))) ⌝ }
 {
     match run::image::verdict(image) {

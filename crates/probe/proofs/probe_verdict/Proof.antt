@@ -4,8 +4,8 @@ use borrow.Author.Needs.{needs}
 use mathlib.Core.Path.{sym, _∙_}
 use Rattle.paper.specs.Image.{verdict}
 use Rattle.probe.proofs.Telling.{told-good, told-broken, told-foreign}
-use Rattle.probe.proofs.ngalovuki_verdict.Statement.{statement}
-use Rattle.probe.proofs.ngalovuki_verdict.Tie as tie
+use Rattle.probe.proofs.probe_verdict.Statement.{statement}
+use Rattle.probe.proofs.probe_verdict.Tie as tie
 
 verdict-requires : tie.Need-verdict-requires
 verdict-requires c κs = search needs
@@ -28,7 +28,7 @@ returns-2 c = told-broken (verdict (c .before .before .before .before .args .ima
 returns-3 : tie.Need-returns-3
 returns-3 c = told-foreign (verdict (c .before .before .before .before .args .image .now)) (sym (c .enum-told3 .given .1) ∙ c .before .before .verdict .ensures)
 
-pub ngalovuki-verdict-spec : {M : Type 1} → statement M
-ngalovuki-verdict-spec =
+pub probe-verdict-spec : {M : Type 1} → statement M
+probe-verdict-spec =
     tie.close
     (tie.spec verdict-requires enum-told enum-told-2 enum-told-3 returns returns-2 returns-3)

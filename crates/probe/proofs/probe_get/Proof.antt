@@ -1,9 +1,9 @@
--- `probe::ngalovuki_get` meets its contract: what the read path answers of the view is told.
+-- `probe::probe_get` meets its contract: what the read path answers of the view is told.
 -- Assumes nothing.
 use Rattle.probe.proofs.Telling.{readable-same, get-told}
 use borrow.Author.Needs.{needs}
-use Rattle.probe.proofs.ngalovuki_get.Statement.{statement}
-use Rattle.probe.proofs.ngalovuki_get.Tie as tie
+use Rattle.probe.proofs.probe_get.Statement.{statement}
+use Rattle.probe.proofs.probe_get.Tie as tie
 
 view-of-requires : tie.Need-view-of-requires
 view-of-requires c κs = search needs
@@ -20,6 +20,6 @@ same-length c = search needs
 returns : tie.Need-returns
 returns c = get-told _ (c .before .before .before .before .before .before .before .before .before .before .args .key .now) (c .before .before .before .before .before .view-of .result) _ (c .before .before .before .before .get .result) _ _ _ (c .before .before .before .before .before .view-of .ensures) (c .before .before .before .before .get .ensures) (c .before .before .tell .ensures)
 
-pub ngalovuki-get-spec : {M : Type 1} → statement M
-ngalovuki-get-spec =
+pub probe-get-spec : {M : Type 1} → statement M
+probe-get-spec =
     tie.close (tie.spec view-of-requires get-requires tell-requires same-length returns)

@@ -1,9 +1,9 @@
--- `probe::ngalovuki_scan` meets its contract: what the read path answers of the view is told.
+-- `probe::probe_scan` meets its contract: what the read path answers of the view is told.
 -- Assumes nothing.
 use Rattle.probe.proofs.Telling.{readable-same, scan-told}
 use borrow.Author.Needs.{needs}
-use Rattle.probe.proofs.ngalovuki_scan.Statement.{statement}
-use Rattle.probe.proofs.ngalovuki_scan.Tie as tie
+use Rattle.probe.proofs.probe_scan.Statement.{statement}
+use Rattle.probe.proofs.probe_scan.Tie as tie
 
 view-of-requires : tie.Need-view-of-requires
 view-of-requires c κs = search needs
@@ -26,8 +26,8 @@ same-length c = search needs
 returns : tie.Need-returns
 returns c = scan-told _ (c .before .before .before .before .before .before .before .before .before .before .before .before .before .args .lo .now) (c .before .before .before .before .before .before .before .before .before .before .before .before .before .args .hi .now) (c .before .before .before .before .before .before .before .view-of .result) _ (c .before .before .before .before .before .before .edge-of .result) _ (c .before .before .before .before .before .edge-of2 .result) _ (c .before .before .before .before .scan .result) _ _ _ (c .before .before .before .before .before .before .before .view-of .ensures) (c .before .before .before .before .before .before .edge-of .ensures) (c .before .before .before .before .before .edge-of2 .ensures) (c .before .before .before .before .scan .ensures) (c .before .before .tell .ensures)
 
-pub ngalovuki-scan-spec : {M : Type 1} → statement M
-ngalovuki-scan-spec =
+pub probe-scan-spec : {M : Type 1} → statement M
+probe-scan-spec =
     tie.close
     (tie.spec
     view-of-requires

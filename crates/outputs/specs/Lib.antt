@@ -1,0 +1,2 @@
+-- How long the output of `replay` can be.
+pub mod Output

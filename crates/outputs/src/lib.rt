@@ -1,0 +1,1 @@
+// How long the output of the program `replay` can be: the statement in specs/, its proof in proofs/.

@@ -1,0 +1,2 @@
+-- A text in an out buffer.
+pub mod Shown
