@@ -177,7 +177,7 @@ fn opposition(
     ensures { λ r. ⌜ sharedHash r ≡ oppositionOf read (hashesIn (now (s .entry)) reads count) (makeCommit number (hashesIn (now (s .entry)) start size)) ⌝ }
 {
     if read < number {
-        return sets::first_shared(s, reads, count, start, size);
+        return sets::first_shared(s, start, size, reads, count);
     }
     sets::Shared::Nothing
 }

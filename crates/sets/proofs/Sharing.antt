@@ -1,13 +1,15 @@
--- The pass over two rising sets that finds the smallest hash in both.
+-- The smallest hash in both of two rising sets, and the pass that finds it.
 -- Assumes nothing.
-use Prim.Native.Nat.{ℕ, _+_, _≤_, _<_, compare}
+use Prim.Native.Nat.{ℕ, zero, suc, _+_, _≤_, _<_, compare}
 use native.Mathlib.Omega.{arith}
+use native.Mathlib.Nat.{le-antisymm}
 use mathlib.Core.Path.{_≡_, refl, sym, ap, _∙_}
-use mathlib.Core.Bool.{true, cond}
+use mathlib.Core.Bool.{Bool, true, false, cond}
 use mathlib.Core.List.{List, [], _∷_}
 use mathlib.Core.Option.{Option, none, some}
 use lib.ListN.{length, drop, drop-of-length-le}
-use borrow.Author.Tests.{eq-eqb, ne-eqb}
+use lib.Dec.{ltb}
+use borrow.Author.Tests.{ltb-true, ltb-false, eq-eqb, ne-eqb}
 use Rattle.paper.specs.Lists.{keep, first, risesFrom, rises, among}
 use Rattle.paper.specs.Keys.{Bytes}
 use Rattle.sets.specs.Sets.{hashesIn, hashAt, sharedHash}
@@ -26,6 +28,16 @@ shared-same Nothing Nothing e = refl
 -- the first element of the first list that is in the second too
 abbrev pub inBoth : List ℕ → List ℕ → Option ℕ
 inBoth xs ys = first (keep (λ h. among h ys) xs)
+
+-- ---- at the front of the first list
+
+both-there : (x : ℕ) (xs ys : List ℕ) → among x ys ≡ true → inBoth (x ∷ xs) ys ≡ some x
+unfolding keep
+both-there x xs ys e = simp e
+
+both-not : (x : ℕ) (xs ys : List ℕ) → among x ys ≡ false → inBoth (x ∷ xs) ys ≡ inBoth xs ys
+unfolding keep
+both-not x xs ys e = simp e
 
 -- ---- at the front of two rising lists
 
@@ -53,56 +65,47 @@ unfolding keep among
 both-none [] = refl
 both-none (x ∷ xs) = both-none xs
 
--- ---- the pass, at place i of the set from a and place j of the set from b
+-- two rising sets share the same smallest hash, whichever is passed through
+module _ (x y : ℕ) (xs ys : List ℕ) (ra : risesFrom compare x xs ≡ true) (rb : risesFrom compare y ys ≡ true) where
+  swap-front : inBoth xs (y ∷ ys) ≡ inBoth (y ∷ ys) xs → inBoth (x ∷ xs) ys ≡ inBoth ys (x ∷ xs) → (b c : Bool) → ltb x y ≡ b → ltb y x ≡ c
+      → inBoth (x ∷ xs) (y ∷ ys) ≡ inBoth (y ∷ ys) (x ∷ xs)
+  swap-front left right true c e f = let h = ltb-true x y e in both-left x y xs ys h rb ∙ left ∙ sym (both-right y x ys xs h rb)
+  swap-front left right false true e f = let h = ltb-true y x f in both-right x y xs ys h ra ∙ right ∙ sym (both-left y x ys xs h ra)
+  swap-front left right false false e f =
+      let h : x ≡ y = le-antisymm (ltb-false y x f) (ltb-false x y e) in
+      both-same x y xs ys h ∙ ap some h ∙ sym (both-same y x ys xs (sym h))
 
-abbrev pub Shares : Bytes → ℕ → ℕ → ℕ → ℕ → ℕ → ℕ → Type 0
-Shares s a n b m i j = inBoth (hashesIn s a n) (hashesIn s b m) ≡ inBoth (drop i (hashesIn s a n)) (drop j (hashesIn s b m))
+swapped : (n : ℕ) (xs ys : List ℕ) → length xs + length ys ≤ n → rises compare xs ≡ true → rises compare ys ≡ true → inBoth xs ys ≡ inBoth ys xs
+unfolding rises keep
+swapped n [] ys l ra rb = sym (both-none ys)
+swapped n (x ∷ xs) [] l ra rb = both-none (x ∷ xs)
+swapped zero (x ∷ xs) (y ∷ ys) l ra rb = absurd (omega arith)
+swapped (suc n) (x ∷ xs) (y ∷ ys) l ra rb =
+    let left = swapped n xs (y ∷ ys) (omega arith) (rises-drop 1 (x ∷ xs) ra) rb in
+    let right = swapped n (x ∷ xs) ys (omega arith) ra (rises-drop 1 (y ∷ ys) rb) in
+    swap-front x y xs ys ra rb left right (ltb x y) (ltb y x) refl refl
 
-module _ (s : Bytes) (a n b m : ℕ) (ra : rises compare (hashesIn s a n) ≡ true) (rb : rises compare (hashesIn s b m) ≡ true) (i j : ℕ) (S : Shares s a n b m i j) where
-  pub shares-no-more : n ≤ i → none ≡ inBoth (hashesIn s a n) (hashesIn s b m)
+pub both-swap : (xs ys : List ℕ) → rises compare xs ≡ true → rises compare ys ≡ true → inBoth xs ys ≡ inBoth ys xs
+both-swap xs ys = swapped (length xs + length ys) xs ys (omega arith)
+
+-- ---- the pass, at place i of the set from a; ys is the other set
+
+abbrev pub Shares : Bytes → ℕ → ℕ → List ℕ → ℕ → Type 0
+Shares s a n ys i = inBoth (hashesIn s a n) ys ≡ inBoth (drop i (hashesIn s a n)) ys
+
+module _ (s : Bytes) (a n : ℕ) (ys : List ℕ) (i : ℕ) (S : Shares s a n ys i) where
+  pub shares-no-more : n ≤ i → none ≡ inBoth (hashesIn s a n) ys
   unfolding keep
   shares-no-more h =
       let l : length (hashesIn s a n) ≤ i = rw length-hashes h in
-      sym (S ∙ ap (λ (t : List ℕ). inBoth t (drop j (hashesIn s b m))) (drop-of-length-le (hashesIn s a n) l))
+      sym (S ∙ ap (λ (t : List ℕ). inBoth t ys) (drop-of-length-le (hashesIn s a n) l))
 
-  pub shares-nothing : m ≤ j → none ≡ inBoth (hashesIn s a n) (hashesIn s b m)
-  shares-nothing h =
-      let l : length (hashesIn s b m) ≤ j = rw length-hashes h in
-      sym (S ∙ ap (λ (t : List ℕ). inBoth (drop i (hashesIn s a n)) t) (drop-of-length-le (hashesIn s b m) l) ∙ both-none (drop i (hashesIn s a n)))
+  module _ (x : ℕ) (p : i < n) (ex : x ≡ hashAt s a i) where
+    front : inBoth (hashesIn s a n) ys ≡ inBoth (x ∷ drop (i + 1) (hashesIn s a n)) ys
+    front = S ∙ ap (λ (t : List ℕ). inBoth t ys) (from-place s a n i p ∙ ap (λ (z : ℕ). z ∷ drop (i + 1) (hashesIn s a n)) (sym ex))
 
-  module _ (x y : ℕ) (p : i < n) (q : j < m) (ex : x ≡ hashAt s a i) (ey : y ≡ hashAt s b j) where
-    xs : List ℕ
-    xs = drop (i + 1) (hashesIn s a n)
+    pub shares-here : among x ys ≡ true → some x ≡ inBoth (hashesIn s a n) ys
+    shares-here e = sym (front ∙ both-there x (drop (i + 1) (hashesIn s a n)) ys e)
 
-    ys : List ℕ
-    ys = drop (j + 1) (hashesIn s b m)
-
-    left : drop i (hashesIn s a n) ≡ x ∷ xs
-    unfolding xs
-    left = from-place s a n i p ∙ ap (λ (z : ℕ). z ∷ drop (i + 1) (hashesIn s a n)) (sym ex)
-
-    right : drop j (hashesIn s b m) ≡ y ∷ ys
-    unfolding ys
-    right = from-place s b m j q ∙ ap (λ (z : ℕ). z ∷ drop (j + 1) (hashesIn s b m)) (sym ey)
-
-    left-rises : risesFrom compare x xs ≡ true
-    unfolding rises
-    left-rises = ap (rises compare) (sym left) ∙ rises-drop i (hashesIn s a n) ra
-
-    right-rises : risesFrom compare y ys ≡ true
-    unfolding rises
-    right-rises = ap (rises compare) (sym right) ∙ rises-drop j (hashesIn s b m) rb
-
-    fronts : inBoth (hashesIn s a n) (hashesIn s b m) ≡ inBoth (x ∷ xs) (y ∷ ys)
-    fronts = S ∙ ap (λ (t : List ℕ). inBoth t (drop j (hashesIn s b m))) left ∙ ap (inBoth (x ∷ xs)) right
-
-    pub shares-here : x ≡ y → some x ≡ inBoth (hashesIn s a n) (hashesIn s b m)
-    shares-here e = sym (fronts ∙ both-same x y xs ys e)
-
-    pub shares-left : x < y → Shares s a n b m (i + 1) j
-    unfolding xs
-    shares-left l = fronts ∙ both-left x y xs ys l right-rises ∙ sym (ap (inBoth xs) right)
-
-    pub shares-right : y < x → Shares s a n b m i (j + 1)
-    unfolding ys
-    shares-right l = fronts ∙ both-right x y xs ys l left-rises ∙ sym (ap (λ (t : List ℕ). inBoth t ys) left)
+    pub shares-next : among x ys ≡ false → Shares s a n ys (i + 1)
+    shares-next e = front ∙ both-not x (drop (i + 1) (hashesIn s a n)) ys e

@@ -106,27 +106,18 @@ pub fn add_hash(s: &mut [u8], at: usize, n: usize, h: u64) -> usize
     }
 }
 
-// The smallest hash of the set from a that stands in the set from b too: one pass over both.
+// The smallest hash of the set from a that stands in the set from b too: each of a's is looked for in b by halves, so a is best the one with fewer.
 pub fn first_shared(s: &[u8], a: usize, n: usize, b: usize, m: usize) -> Shared
-    requires { ⌜ (a + 4 * n ≤ length (now s)) × (b + 4 * m ≤ length (now s)) × (rises compare (hashesIn (now s) a n) ≡ true) × (rises compare (hashesIn (now s) b m) ≡ true) ⌝ }
+    requires { ⌜ (a + 4 * n ≤ length (now s)) × (b + 4 * m ≤ length (now s)) × (rises compare (hashesIn (now s) b m) ≡ true) ⌝ }
     ensures { λ r. ⌜ sharedHash r ≡ first (keep (λ h. among h (hashesIn (now (s .entry)) b m)) (hashesIn (now (s .entry)) a n)) ⌝ }
 {
     let mut i = 0;
-    let mut j = 0;
     while i < n {
-        if m <= j {
-            return Shared::Nothing;
+        let h = hash_at(s, a, i);
+        if among(s, b, m, h) {
+            return Shared::Hash { hash: h };
         }
-        let x = hash_at(s, a, i);
-        let y = hash_at(s, b, j);
-        if x == y {
-            return Shared::Hash { hash: x };
-        }
-        if x < y {
-            i += 1;
-        } else {
-            j += 1;
-        }
+        i += 1;
     }
     Shared::Nothing
 }

@@ -2,6 +2,7 @@
 -- Assumes nothing.
 use Rattle.mvcc.proofs.Opposing.{opposed, unopposed}
 use Rattle.sets.specs.Sets.{hashesIn}
+use Rattle.sets.proofs.Sharing.{both-swap}
 use mathlib.Core.Path.{_∙_}
 use borrow.Author.Needs.{needs}
 use Rattle.mvcc.proofs.opposition.Statement.{statement}
@@ -13,7 +14,10 @@ first-shared-requires c κs = search needs
 returns : tie.Need-returns
 returns c =
     let a = c .before .before .before .args in
-    c .first-shared .ensures ∙ opposed (a .read) (a .number) (hashesIn (a .s .now) (a .reads) (a .count)) (hashesIn (a .s .now) (a .start) (a .size)) (c .before .if1 .taken)
+    let p = c .before .before .before .pre in
+    let reads = hashesIn (a .s .now) (a .reads) (a .count) in
+    let hs = hashesIn (a .s .now) (a .start) (a .size) in
+    c .first-shared .ensures ∙ both-swap hs reads (p .3) (p .2) ∙ opposed (a .read) (a .number) reads hs (c .before .if1 .taken)
 
 returns-2 : tie.Need-returns-2
 returns-2 c =

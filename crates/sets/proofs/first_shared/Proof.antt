@@ -1,41 +1,33 @@
--- The invariant: the smallest hash in both sets is the smallest in what is left of both.
+-- The invariant: the smallest hash in both sets is the smallest in what is left of the first one.
 -- Assumes nothing.
-use Rattle.sets.proofs.Sharing.{Shares, shares-no-more, shares-nothing, shares-here, shares-left, shares-right}
-use Rattle.sets.proofs.Risings.{apart}
-use mathlib.Core.Path.{refl}
-use Prim.Native.Nat.{_+_, _-_, _≤_}
+use Rattle.sets.proofs.Sharing.{Shares, shares-no-more, shares-here, shares-next}
+use Rattle.sets.specs.Sets.{hashesIn}
+use mathlib.Core.Path.{refl, sym, _∙_}
+use Prim.Native.Nat.{_-_, _≤_}
 use native.Mathlib.Omega.{arith}
 use Rattle.sets.proofs.first_shared.Statement.{statement}
 use Rattle.sets.proofs.first_shared.Tie as tie
 
 abbrev Inv-loop : tie.InvT-loop
-Inv-loop s a n b m i₀ j₀ i j = (i ≤ n) × (j ≤ m) × Shares s a n b m i j
+Inv-loop s a n b m i₀ i = (i ≤ n) × Shares s a n (hashesIn s b m) i
 
 abbrev μ-loop : tie.MeasureT-loop
-μ-loop s a n b m i₀ j₀ i j = (n - i) + (m - j)
+μ-loop s a n b m i₀ i = n - i
 
 loop-holds : tie.Need-loop-holds Inv-loop μ-loop
-loop-holds c = (omega arith, omega arith, refl)
-
-returns : tie.Need-returns Inv-loop μ-loop
-returns c =
-    let a = c .before .before .before .before .args in
-    let p = c .before .before .before .before .pre in
-    let l = c .before .before .loop in
-    shares-nothing (a .s .now) (a .a) (a .n) (a .b) (a .m) (p .2) (p .3) (l .i) (l .j) (l .inv .2) (c .if1 .taken)
+loop-holds c = (omega arith, refl)
 
 hash-at-requires : tie.Need-hash-at-requires Inv-loop μ-loop
 hash-at-requires c κs = omega arith
 
-hash-at-requires-2 : tie.Need-hash-at-requires-2 Inv-loop μ-loop
-hash-at-requires-2 c κs = omega arith
+among-requires : tie.Need-among-requires Inv-loop μ-loop
+among-requires c κs = let p = c .before .before .before .before .pre in (p .1, p .2)
 
-returns-2 : tie.Need-returns-2 Inv-loop μ-loop
-returns-2 c =
-    let a = c .before .before .before .before .before .before .before .args in
-    let p = c .before .before .before .before .before .before .before .pre in
-    let l = c .before .before .before .before .before .loop in
-    shares-here (a .s .now) (a .a) (a .n) (a .b) (a .m) (p .2) (p .3) (l .i) (l .j) (l .inv .2) (c .before .before .hash-at .result) (c .before .hash-at2 .result) (c .before .before .before .before .loop-test .taken) (c .before .before .before .if1 .left) (c .before .before .hash-at .ensures .0) (c .before .hash-at2 .ensures .0) (c .if2 .taken)
+returns : tie.Need-returns Inv-loop μ-loop
+returns c =
+    let a = c .before .before .before .before .before .before .args in
+    let l = c .before .before .before .before .loop in
+    shares-here (a .s .now) (a .a) (a .n) (hashesIn (a .s .now) (a .b) (a .m)) (l .i) (l .inv .1) (c .before .before .hash-at .result) (c .before .before .before .loop-test .taken) (c .before .before .hash-at .ensures .0) (sym (c .before .among .ensures) ∙ c .if1 .taken)
 
 add-i : tie.Need-add-i Inv-loop μ-loop
 add-i c = omega arith
@@ -45,30 +37,15 @@ loop-less c = omega arith
 
 loop-again : tie.Need-loop-again Inv-loop μ-loop
 loop-again c =
-    let a = c .before .before .before .before .before .before .before .before .args in
-    let p = c .before .before .before .before .before .before .before .before .pre in
-    let l = c .before .before .before .before .before .before .loop in
-    (omega arith, omega arith, shares-left (a .s .now) (a .a) (a .n) (a .b) (a .m) (p .2) (p .3) (l .i) (l .j) (l .inv .2) (c .before .before .before .hash-at .result) (c .before .before .hash-at2 .result) (c .before .before .before .before .before .loop-test .taken) (c .before .before .before .before .if1 .left) (c .before .before .before .hash-at .ensures .0) (c .before .before .hash-at2 .ensures .0) (c .if3 .taken))
+    let a = c .before .before .before .before .before .before .args in
+    let l = c .before .before .before .before .loop in
+    (omega arith, shares-next (a .s .now) (a .a) (a .n) (hashesIn (a .s .now) (a .b) (a .m)) (l .i) (l .inv .1) (c .before .before .hash-at .result) (c .before .before .before .loop-test .taken) (c .before .before .hash-at .ensures .0) (sym (c .before .among .ensures) ∙ c .if1 .left))
 
-add-j : tie.Need-add-j Inv-loop μ-loop
-add-j c = omega arith
-
-loop-less-2 : tie.Need-loop-less-2 Inv-loop μ-loop
-loop-less-2 c = omega arith
-
-loop-again-2 : tie.Need-loop-again-2 Inv-loop μ-loop
-loop-again-2 c =
-    let a = c .before .before .before .before .before .before .before .before .args in
-    let p = c .before .before .before .before .before .before .before .before .pre in
-    let l = c .before .before .before .before .before .before .loop in
-    (omega arith, omega arith, shares-right (a .s .now) (a .a) (a .n) (a .b) (a .m) (p .2) (p .3) (l .i) (l .j) (l .inv .2) (c .before .before .before .hash-at .result) (c .before .before .hash-at2 .result) (c .before .before .before .before .before .loop-test .taken) (c .before .before .before .before .if1 .left) (c .before .before .before .hash-at .ensures .0) (c .before .before .hash-at2 .ensures .0) (apart (c .before .before .before .hash-at .result) (c .before .before .hash-at2 .result) (c .if3 .left) (c .before .if2 .left)))
-
-returns-3 : tie.Need-returns-3 Inv-loop μ-loop
-returns-3 c =
+returns-2 : tie.Need-returns-2 Inv-loop μ-loop
+returns-2 c =
     let a = c .before .before .before .args in
-    let p = c .before .before .before .pre in
     let l = c .before .loop in
-    shares-no-more (a .s .now) (a .a) (a .n) (a .b) (a .m) (p .2) (p .3) (l .i) (l .j) (l .inv .2) (c .loop-test .left)
+    shares-no-more (a .s .now) (a .a) (a .n) (hashesIn (a .s .now) (a .b) (a .m)) (l .i) (l .inv .1) (c .loop-test .left)
 
 pub first-shared-spec : {M : Type 1} → statement M
 first-shared-spec =
@@ -77,14 +54,10 @@ first-shared-spec =
     Inv-loop
     μ-loop
     loop-holds
-    returns
     hash-at-requires
-    hash-at-requires-2
-    returns-2
+    among-requires
+    returns
     add-i
     loop-less
     loop-again
-    add-j
-    loop-less-2
-    loop-again-2
-    returns-3)
+    returns-2)

@@ -1,0 +1,3 @@
+-- The words of a script.
+pub mod Fields
+pub mod Commands
