@@ -1,110 +1,97 @@
 #!/usr/bin/env python3
-"""Measures the state check: how long `ngalovuki_sound` takes, by the bytes in use.
+"""Measures the state check: how long `ngalovuki_sound` takes, by the bytes in use and by what they hold.
 
   bench/build                first; it takes the proofs along
-  bench/state_check.py       prints a table
+  bench/state_check.py       prints two tables
 
-The states have the largest settings of document 01 (102 MB), filled to a share of their room: overlays
-with their write sets, read sets, history, active run and 16 images. Each is judged several times, and
-the fastest is printed. The last lines have the smallest settings, so that capacity can be told from use.
+The states of the first table have the largest settings of document 01 (103 MB), filled to a share of their room:
+overlays with their write sets, read sets, history, active run and 16 images; the smallest settings stand beside them, so
+that capacity can be told from use. Those of the second table hold one thing alone.
 """
-import ctypes
-import pathlib
-import time
-
-HERE = pathlib.Path(__file__).resolve().parent
-library = ctypes.CDLL(str(HERE / 'target/libhost.so'))
-library.ngalovuki_sound.argtypes = [ctypes.c_char_p, ctypes.c_uint64]
-library.ngalovuki_sound.restype = ctypes.c_uint64
-
-LARGEST = (64, 1048576, 65536, 4096, 4096, 65536, 1048576, 16777216)
-SMALLEST = (1, 64, 1, 1, 1, 1, 64, 9)
-CLOCK, COUNTER = 1000000, 64
+from states import (CLOCK, LARGEST, SMALLEST, State, Txn, entry, hashes, image, key, medians, record, records)
 
 
-def n8(n):
-    return n.to_bytes(8, 'big')
+def filled(settings, share):
+    """A state with `share` of each room in use."""
+    size = settings.own // settings.writes
+    pairs = [(key(i), b'v' * (size - 20)) for i in range(int(settings.writes * share))] if share else []
+    txn = Txn(pairs, hashes(range(int(settings.reads * share))))
+    each = settings.hashes // settings.entries
+    history = b''.join(entry(i + 1, range(each)) for i in range(int(settings.entries * share)))
+    active = records(int(settings.active * share) // 256, CLOCK, 256)
+    count = (int(settings.area * share) // 16 - 9) // 256
+    images = [image(count, records(count, 1 + i, 256)) for i in range(16)] if share else []
+    return State(settings, [txn] * int(settings.transactions * share), history, active, images)
 
 
-def fnv1a(key):
-    h = 2166136261
-    for byte in key:
-        h = (h ^ byte) * 16777619 % 2**32
-    return h
+RUNS = LARGEST._replace(transactions=1, own=64, reads=1, writes=1, entries=1, hashes=1, active=64)
+MANY = LARGEST._replace(own=262144, reads=1, entries=1, hashes=1, active=64, area=9)
+LONG = LARGEST._replace(transactions=16, reads=1, writes=16, entries=1, hashes=1, active=64, area=9)
+READS = LARGEST._replace(own=64, writes=1, entries=1, hashes=1, active=64, area=9)
+HISTORY = LARGEST._replace(transactions=1, own=64, reads=1, writes=1, active=64, area=9)
 
 
-def listed(data, width):
-    """A list in its room: the number of its bytes in front, zeros behind."""
-    return (n8(len(data)) + data).ljust(8 + width, b'\0')
+def run(count, packed):
+    return State(RUNS, images=[image(count, packed)])
 
 
-def record(key, stamp, value):
-    return len(key).to_bytes(2, 'big') + key + n8(stamp) + len(value).to_bytes(2, 'big') + value
+def kinds():
+    """States that hold one thing alone, by name."""
+    yield 'runs, records of 256 bytes (key 16, value 228)', lambda: run(62500, records(62500, 1, 256))
+    yield 'runs, records of 64 bytes (key 16, value 36)', lambda: run(250000, records(250000, 1))
+    yield 'runs, records of 29 bytes (key 16, value 1)', lambda: run(550000, records(550000, 1, 29))
+    yield ('runs, records of 13 bytes (key 1, no value, 4,000 versions of each key)',
+           lambda: run(1024000, b''.join(record(bytes([k]), 4000 - t, b'') for k in range(256) for t in range(4000))))
+    yield ('runs, records of 1,048 bytes (key 1,000, all but the last 16 bytes shared; value 36)',
+           lambda: run(15000, b''.join(record(b'k' * 984 + key(i), 1, b'v' * 36) for i in range(15000))))
+    yield ('own writes, 4,096 of 64 bytes (key 16) in each of 64 transactions',
+           lambda: State(MANY, [Txn([(key(i), b'v' * 44) for i in range(4096)])] * 64))
+    yield ('own writes, 15 of 65,539 bytes (key 65,535) in each of 16 transactions',
+           lambda: State(LONG, [Txn([(bytes([65 + i]) * 65535, b'') for i in range(15)])] * 16))
+    yield ('own writes, 1,000 of 1,004 bytes (key 1,000, all but the last 16 bytes shared) in each of 16 transactions',
+           lambda: State(LONG._replace(writes=1024), [Txn([(b'k' * 984 + key(i), b'') for i in range(1000)])] * 16))
+    yield ('own writes, 4,096 of 6 bytes (key 2, no value) in each of 64 transactions',
+           lambda: State(MANY, [Txn([((i * 15).to_bytes(2, 'big'), b'') for i in range(4096)])] * 64))
+    yield 'read sets, 65,536 hashes in each of 64 transactions', lambda: State(READS, [Txn([], hashes(range(65536)))] * 64)
+    yield ('history, 4,096 entries of 16 hashes',
+           lambda: State(HISTORY, history=b''.join(entry(i + 1, range(16)) for i in range(4096))))
 
 
-def records(room, stamp):
-    """Records of 256 bytes each that fill a room."""
-    value = b'v' * 228
-    return b''.join(record(b'%016d' % i, stamp, value) for i in range(room // 256))
+def judged(state):
+    assert state.sound() == 1, 'the state made here is not sound'
+    return medians([state.sound])[0]
 
 
-def image(room, stamp):
-    body = records(room, stamp)
-    return b'RUN\0\1' + (len(body) // 256).to_bytes(4, 'big') + body
+def shares():
+    """Rows of the first table: settings, length, bytes in use, seconds."""
+    for name, settings, share in (('largest', LARGEST, 1), ('largest, half of each room in use', LARGEST, 0.5),
+                                  ('largest, a tenth', LARGEST, 0.1), ('largest, a hundredth', LARGEST, 0.01),
+                                  ('largest, opened and empty', LARGEST, 0), ('smallest, empty', SMALLEST, 0)):
+        state = filled(settings, share)
+        yield name, state.length, state.used, judged(state)
 
 
-def hashes(values):
-    return b''.join(h.to_bytes(4, 'big') for h in values)
+def contents():
+    """Rows of the second table: what is in use, bytes, seconds."""
+    for name, make in kinds():
+        state = make()
+        yield name, state.used, judged(state)
 
 
-def state(settings, share):
-    """A sound state with `share` of each room in use, and the number of bytes in use."""
-    count, own, reads, writes, entries, total, active, area = settings
-    taken = int(count * share) if share < 1 else count
-    kept = [i for i in range(int(writes * share))]
-    pairs = sorted(b'%016d' % i for i in kept)
-    size = own // writes if writes else 0
-    overlay = b''.join((16).to_bytes(2, 'big') + k + (size - 20).to_bytes(2, 'big') + b'v' * (size - 20) for k in pairs) if size > 20 else b''
-    if size <= 20:
-        pairs = []
-    written = hashes(sorted({fnv1a(k) for k in pairs}))
-    read = hashes(range(int(reads * share)))
-    place = n8(CLOCK) + n8(1) + listed(overlay, own) + listed(read, 4 * reads) + listed(written, 4 * writes)
-    free = bytes(8 + len(place))
-    places = b''.join(n8(i + 1) + place for i in range(taken)) + free * (count - taken)
-    commits = int(entries * share)
-    each = total // entries
-    history = b''.join(n8(i + 1) + n8(4 * each) + hashes(range(each)) for i in range(commits))
-    rows = n8(CLOCK) + n8(taken) if taken else b''
-    run = records(int(active * share), CLOCK)
-    images = [image(int(area * share) // 16 - 9, 1 + i) for i in range(16)] if share else []
-    packed = b''.join(n8(len(i)) + i for i in images)
-    head = n8(1) + b''.join(n8(n) for n in settings) + n8(CLOCK) + n8(COUNTER)
-    whole = (head + listed(rows, 16 * count) + listed(history, 16 * entries + 4 * total) + listed(run, active)
-             + listed(packed, 128 + area) + places)
-    used = len(head) + len(rows) + len(history) + len(run) + len(packed) + taken * (len(overlay) + len(read) + len(written) + 48)
-    return whole, used
-
-
-def fastest(whole, tries):
-    best = None
-    for _ in range(tries):
-        start = time.perf_counter()
-        said = library.ngalovuki_sound(whole, len(whole))
-        took = time.perf_counter() - start
-        assert said == 1, 'the state made here is not sound'
-        best = took if best is None else min(best, took)
-    return best
+def rate(used, took):
+    return f'{used / took / 1e6:,.0f} MB' if used > 1000 else ''
 
 
 def main():
     print('| settings | length of the state | bytes in use | time | used bytes in a second |')
     print('|---|---|---|---|---|')
-    for name, settings, share in (('largest', LARGEST, 1), ('largest', LARGEST, 0.5), ('largest', LARGEST, 0.1),
-                                  ('largest', LARGEST, 0.01), ('largest', LARGEST, 0), ('smallest', SMALLEST, 0)):
-        whole, used = state(settings, share)
-        took = fastest(whole, 3 if share > 0.2 else 20)
-        print(f'| {name} | {len(whole):,} | {used:,} | {took * 1000:.3f} ms | {used / took / 1e6:.0f} MB |')
+    for name, length, used, took in shares():
+        print(f'| {name} | {length:,} | {used:,} | {took * 1000:.3f} ms | {rate(used, took)} |')
+    print()
+    print('| in use | bytes in use | time | used bytes in a second |')
+    print('|---|---|---|---|')
+    for name, used, took in contents():
+        print(f'| {name} | {used:,} | {took * 1000:.3f} ms | {rate(used, took)} |')
 
 
 if __name__ == '__main__':

@@ -1,14 +1,22 @@
 //! The original files of mini-lsm-mvcc, compiled unchanged, with stand-ins for
 //! the files that are not at hand. Ours: lib, block, compact, manifest, table,
-//! wal, replay, scans, sheet. Original: all the rest (see originals.sha256).
+//! wal, replay, scans, sheet, timed. Original: all the rest (see
+//! originals.sha256).
 #![allow(dead_code, private_interfaces)]
+
+/// Whether ORACLE_TRACE is set; looked up once, so that it costs a timed call
+/// nothing.
+fn traced() -> bool {
+    static SET: std::sync::OnceLock<bool> = std::sync::OnceLock::new();
+    *SET.get_or_init(|| std::env::var_os("ORACLE_TRACE").is_some())
+}
 
 /// The originals print to standard output when they commit or flush. This
 /// shadows `println!` for them: the line goes to standard error, and only if
 /// ORACLE_TRACE is set.
 macro_rules! println {
     ($($t:tt)*) => {
-        if std::env::var_os("ORACLE_TRACE").is_some() {
+        if crate::traced() {
             std::eprintln!($($t)*)
         }
     };
@@ -28,4 +36,5 @@ pub mod scans;
 #[cfg(test)]
 mod sheet;
 pub mod table;
+pub mod timed;
 pub mod wal;

@@ -144,6 +144,40 @@ module _ {A : Type 0} (bf : A → A → Bool) (z : A) where
         least = λ j p h q. one-of j lf rt p q el er (rf (getD l lf z)) lf (rf (getD l lf z)) (λ e. absurd (omega arith)) (ℕ-discrete j lf);
       }
 
+      -- `at` and both children, by how each of them stands to `at`
+      module _ (b : rt < n) where
+        pub right-alone : bf (getD l lf z) (getD l at z) ≡ false → bf (getD l rt z) (getD l at z) ≡ true → Next bf z l n at rt
+        right-alone f t =
+            let top : LeAt bf z l rt at = asy (getD l rt z) (getD l at z) t in
+            record {
+              child = λ _. record { pos = omega arith; below = b; parent = omega arith };
+              top = top;
+              least = λ j p h q. one-of j lf rt p q el er (rf (getD l lf z)) rt (tr (getD l rt z) (getD l at z) (getD l lf z) top f) (λ _. rf (getD l rt z)) (ℕ-discrete j lf);
+            }
+
+        pub neither : bf (getD l lf z) (getD l at z) ≡ false → bf (getD l rt z) (getD l at z) ≡ false → Next bf z l n at at
+        neither f g = record {
+          child = λ ne. absurd (ne refl);
+          top = rf (getD l at z);
+          least = λ j p h q. one-of j lf rt p q el er (rf (getD l lf z)) at f (λ _. g) (ℕ-discrete j lf);
+        }
+
+        pub left-alone : bf (getD l lf z) (getD l at z) ≡ true → bf (getD l rt z) (getD l at z) ≡ false → Next bf z l n at lf
+        left-alone t g =
+            let top : LeAt bf z l lf at = asy (getD l lf z) (getD l at z) t in
+            record {
+              child = λ _. record { pos = omega arith; below = omega arith; parent = omega arith };
+              top = top;
+              least = λ j p h q. one-of j lf rt p q el er (rf (getD l lf z)) lf (rf (getD l lf z)) (λ _. tr (getD l lf z) (getD l at z) (getD l rt z) top g) (ℕ-discrete j lf);
+            }
+
+        pub both-rise : (r : ℕ) → Smaller bf z l n at r → bf (getD l lf z) (getD l at z) ≡ true → Next bf z l n at r
+        both-rise r s t = record {
+          child = λ _. s .child;
+          top = tr (getD l r z) (getD l lf z) (getD l at z) (s .least lf (omega arith) (omega arith) (omega arith)) (asy (getD l lf z) (getD l at z) t);
+          least = s .least;
+        }
+
     pub no-child : n ≤ at + at + 1 → Next bf z l n at at
     no-child h = record { child = λ ne. absurd (ne refl); top = rf (getD l at z); least = λ j p b q. absurd (omega arith) }
 

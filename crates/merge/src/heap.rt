@@ -53,20 +53,51 @@ fn smaller(s: &[u8], h: Heap, at: usize) -> usize
     left
 }
 
+// Whether the cursor at i comes before the one at j.
+fn before_at(s: &[u8], h: Heap, i: usize, j: usize) -> bool
+    requires { ⌜ (h .len ≤ 17) × (i < h .len) × (j < h .len) × (all (live (now s)) (cursorsOf h) ≡ true) ⌝ }
+    ensures { λ r. ⌜ r ≡ bef (now (s .entry)) (getD (h .cursors) i nowhere) (getD (h .cursors) j nowhere) ⌝ }
+{
+    let a = h.cursors[i];
+    let b = h.cursors[j];
+    before(s, a, b)
+}
+
+// Of `at`, which has two children, and these the one that comes first. The children are compared with each other only where both come before `at`, so that one
+// of them is handed out next: however long the keys are at which other runs wait, time is spent on those that are handed out.
+fn sink_to_one_of_two(s: &[u8], h: Heap, at: usize) -> usize
+    requires { ⌜ (h .len ≤ 17) × (at + at + 2 < h .len) × (all (live (now s)) (cursorsOf h) ≡ true) ⌝ }
+    ensures { λ r. ⌜ Next (bef (now (s .entry))) nowhere (h .cursors) (h .len) at r ⌝ }
+{
+    let left = 2 * at + 1;
+    let right = left + 1;
+    if !before_at(s, h, left, at) {
+        if before_at(s, h, right, at) {
+            return right;
+        }
+        return at;
+    }
+    if !before_at(s, h, right, at) {
+        return left;
+    }
+    smaller(s, h, at)
+}
+
 // `at`, or the child of it that comes first, if that comes before it.
 fn sink_to(s: &[u8], h: Heap, at: usize) -> usize
     requires { ⌜ (h .len ≤ 17) × (at < 17) × (all (live (now s)) (cursorsOf h) ≡ true) ⌝ }
     ensures { λ r. ⌜ Next (bef (now (s .entry))) nowhere (h .cursors) (h .len) at r ⌝ }
 {
     let len = h.len;
-    if len <= 2 * at + 1 {
+    let left = 2 * at + 1;
+    if len <= left {
         return at;
     }
-    let small = smaller(s, h, at);
-    let a = h.cursors[at];
-    let b = h.cursors[small];
-    if before(s, b, a) {
-        return small;
+    if left + 1 < len {
+        return sink_to_one_of_two(s, h, at);
+    }
+    if before_at(s, h, left, at) {
+        return left;
     }
     at
 }
