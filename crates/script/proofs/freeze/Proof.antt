@@ -1,0 +1,33 @@
+use Rattle.script.proofs.Answers.{answer-plain, settled-plain}
+use Rattle.reply.specs.Told.{toldSettled}
+use Rattle.paper.specs.Calls.{Call}
+use borrow.Author.Needs.{needs}
+use Rattle.script.proofs.freeze.Statement.{statement}
+use Rattle.script.proofs.freeze.Tie as tie
+
+-- src/lib.rt:87:9
+freeze-requires : tie.Need-freeze-requires
+freeze-requires c κs = search needs
+
+-- src/lib.rt:88:5
+settled-requires : tie.Need-settled-requires
+settled-requires c κs = search needs
+
+-- src/lib.rt:84:1
+same-length : tie.Need-same-length
+same-length c = search needs
+
+-- src/lib.rt:84:1
+same-length-2 : tie.Need-same-length-2
+same-length-2 c = search needs
+
+-- src/lib.rt:84:1
+returns : tie.Need-returns
+returns c =
+    let a = c .before .before .before .before .before .before .before .before .before .before .args in
+    let s = c .before .before .before .before .before .before .freeze in
+    answer-plain Call.freeze (a .state .now) (s .last .0) (toldSettled (s .result)) (s .ensures) (settled-plain (s .result)) (a .out .now) (a .at) (c .before .before .settled .ensures)
+
+pub freeze-spec : {M : Type 1} → statement M
+freeze-spec =
+    tie.close (tie.spec freeze-requires settled-requires same-length same-length-2 returns)

@@ -1,0 +1,51 @@
+use Rattle.script.proofs.Showing.{three-fields}
+use borrow.Author.Needs.{needs}
+use Rattle.script.proofs.replies.with_texts.Statement.{statement}
+use Rattle.script.proofs.replies.with_texts.Tie as tie
+
+-- src/replies.rt:42:41
+slice-aggregate-text : tie.Need-slice-aggregate-text
+slice-aggregate-text c = search needs
+
+-- src/replies.rt:42:9
+text-requires : tie.Need-text-requires
+text-requires c κs = search needs
+
+-- src/replies.rt:43:9
+word-requires : tie.Need-word-requires
+word-requires c κs = search needs
+
+-- src/replies.rt:44:9
+word-requires-2 : tie.Need-word-requires-2
+word-requires-2 c κs = search needs
+
+-- src/replies.rt:45:30
+slice-aggregate-text-2 : tie.Need-slice-aggregate-text-2
+slice-aggregate-text-2 c = search needs
+
+-- src/replies.rt:45:5
+text-requires-2 : tie.Need-text-requires-2
+text-requires-2 c κs = search needs
+
+-- src/replies.rt:39:1
+same-length : tie.Need-same-length
+same-length c = search needs
+
+-- src/replies.rt:39:1
+returns : tie.Need-returns
+returns c =
+    let a = c .before .before .before .before .before .before .before .before .before .before .before .before .before .before .before .before .before .before .before .before .before .args in
+    three-fields (a .out .now) (a .at) (a .x .now) (a .y .now) (c .before .before .before .before .before .before .before .before .before .before .before .before .before .before .before .text .ensures) (c .before .before .before .before .before .before .before .before .before .before .before .word .ensures) (c .before .before .before .before .before .before .before .word2 .ensures) (c .before .before .text2 .ensures)
+
+pub with-texts-spec : {M : Type 1} → statement M
+with-texts-spec =
+    tie.close
+    (tie.spec
+    slice-aggregate-text
+    text-requires
+    word-requires
+    word-requires-2
+    slice-aggregate-text-2
+    text-requires-2
+    same-length
+    returns)

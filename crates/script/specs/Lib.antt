@@ -1,0 +1,3 @@
+-- A script on the bytes of a state.
+pub mod OnLines
+pub mod Inside
