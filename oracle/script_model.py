@@ -3,17 +3,12 @@
 
   script_model.py < script       writes the output; with -n the store isn't serializable
 
-  replay(data)                   the same as a function
-  Replay()                       a store and its script language; .answer(line) takes one line
-
 The model is written from document 01's sentences alone and shares nothing with the Rust or with our code. What stands
 in double quotes behind "01:" is document 01's, word for word. The model looks at every version for every read, which is
-slow and plain.
+slow and plain. Each rule has a method of its own, so that script_wrong.py can break one at a time.
 """
 import sys
 
-LAST = 2**64 - 1
-LONGEST_INPUT = 32768
 
 
 class Refused(Exception):
@@ -43,17 +38,6 @@ def fnv1a(key):
 def records(run):
     """The versions of a run. A run is a dictionary from a key to its values by timestamp."""
     return [(key, time, value) for key, values in run.items() for time, value in values.items()]
-
-
-def version_bytes(run):
-    """01: "12 bytes plus key and value for each version"."""
-    return sum(12 + len(key) + len(value) for key, _, value in records(run))
-
-
-def image_bytes(run):
-    """01: "Three bytes `RUN`, version 1 in 16 bits, record count in 32 bits, then for each record: key length 16 bits,
-    key, timestamp 64 bits, value length 16 bits, value." """
-    return 3 + 2 + 4 + sum(2 + len(key) + 8 + 2 + len(value) for key, _, value in records(run))
 
 
 class Transaction:
@@ -182,18 +166,14 @@ class Store:
             no_room(('read set', h not in txn.reads and len(txn.reads) >= self.READS))
             txn.reads.add(h)
 
-    def overlay_bytes(self, txn):
+    def overlay_bytes(self, own):
         """01: "4 bytes plus key and value for each entry, a replaced value counted no more"."""
-        return sum(4 + len(key) + len(value) for key, value in txn.own.items())
-
-    def overlay_after(self, txn, key, value):
-        after = Transaction(txn.read)
-        after.own = {**txn.own, key: value}
-        return self.overlay_bytes(after)
+        return sum(4 + len(key) + len(value) for key, value in own.items())
 
     def begin(self):
-        """01: "A new transaction gets the next handle, 1 for the first after opening, reads at the clock". No counter of
-        a script reaches its end."""
+        """01: "A new transaction gets the next handle, 1 for the first after opening, reads at the clock". The reader
+        table has a row for each place, so it is never full before the places are, and no counter of a script reaches
+        its end (7)."""
         no_room(('transaction place', len(self.begun) >= self.TRANSACTIONS))
         self.counter += 1
         self.begun[self.counter] = Transaction(self.clock)
@@ -218,7 +198,7 @@ class Store:
         txn = self.opened(handle)
         h = self.hash(key)
         no_room(
-            ('overlay', self.overlay_after(txn, key, value) > self.OVERLAY),
+            ('overlay', self.overlay_bytes({**txn.own, key: value}) > self.OVERLAY),
             ('write set', self.serializable and h not in txn.writes and len(txn.writes) >= self.WRITES))
         txn.own[key] = value
         if self.serializable:
@@ -240,13 +220,17 @@ class Store:
         watermark leave"."""
         return {**self.pruned(), self.clock + 1: set(txn.writes)} if self.serializable else {}
 
+    def active_bytes(self, run):
+        """01: "12 bytes plus key and value for each version"."""
+        return sum(12 + len(key) + len(value) for key, _, value in records(run))
+
     def commit_room(self, txn):
         """01: "history after pruning plus the new entry above a limit; active run .. too small"."""
         history = self.history_after(txn)
         no_room(
             ('history entries', len(history) > self.ENTRIES),
             ('history hashes', sum(map(len, history.values())) > self.HASHES),
-            ('active run', version_bytes(self.active_after(txn)) > self.ACTIVE))
+            ('active run', self.active_bytes(self.active_after(txn)) > self.ACTIVE))
 
     def check_commit(self, txn):
         """01: "Commit: 9, 3, 4, 6, 7, 5."; "6 alone marks its transaction closed"; "After 5 or 7 a transaction stays open
@@ -274,9 +258,14 @@ class Store:
         self.transaction(handle)
         del self.begun[handle]
 
+    def image_bytes(self, run):
+        """01: "Three bytes `RUN`, version 1 in 16 bits, record count in 32 bits, then for each record: key length 16
+        bits, key, timestamp 64 bits, value length 16 bits, value." """
+        return 3 + 2 + 4 + sum(2 + len(key) + 8 + 2 + len(value) for key, _, value in records(run))
+
     def area_bytes(self, runs):
         """01: "run area (whole images)"."""
-        return sum(image_bytes(run) for run in runs)
+        return sum(map(self.image_bytes, runs))
 
     def freeze(self):
         """01: "Freezing makes the active run such an image, first among the frozen, and empties it; freezing an empty one
@@ -291,6 +280,9 @@ class Store:
 class Replay(Store):
     """The script language. 01, 'Sheet of cases': "The program `replay` reads standard input .." """
 
+    INPUT = 32768
+    WORD = 16
+    LAST = 2**64 - 1
     DIGITS = b'0123456789'
     LETTERS_AND_DIGITS = DIGITS + b'ABCDEFGHIJKLMNOPQRSTUVWXYZabcdefghijklmnopqrstuvwxyz'
 
@@ -303,13 +295,13 @@ class Replay(Store):
         n = 0
         for byte in field:
             n = 10 * n + self.DIGITS.index(byte)
-            if n > LAST:
+            if n > self.LAST:
                 return None
         return n
 
     def word(self, field):
         """01: "keys and values 1 to 16 ASCII letters or digits". None is not understood."""
-        good = 1 <= len(field) <= 16 and all(byte in self.LETTERS_AND_DIGITS for byte in field)
+        good = 1 <= len(field) <= self.WORD and all(byte in self.LETTERS_AND_DIGITS for byte in field)
         return field if good else None
 
     def bound(self, field):
@@ -361,13 +353,10 @@ class Replay(Store):
         lines = data.split(b'\n')
         return lines[:-1] if lines[-1] == b'' else lines
 
-    def overlong(self, data):
-        return len(data) > LONGEST_INPUT
-
     def whole(self, data):
         """For each output line its fields and the rooms that are short. 01: "at most 32,768 bytes (more: the single line
         `0 13`)"; "Output: line number, return number, then .." """
-        if self.overlong(data):
+        if len(data) > self.INPUT:
             return [([b'0', b'13'], ())]
         said = []
         for number, line in enumerate(self.lines(data), 1):
