@@ -1,27 +1,24 @@
-use Rattle.script.proofs.Answers.{answer-plain, begun-plain}
-use Rattle.reply.specs.Told.{toldBegun}
-use Rattle.paper.specs.Calls.{Call}
+-- The call, and its answer.
+-- Assumes nothing.
 use borrow.Author.Needs.{needs}
+use Rattle.paper.specs.Calls.{Call}
+use Rattle.reply.specs.Told.{toldBegun}
+use Rattle.script.proofs.Answers.{answer-plain, begun-plain}
 use Rattle.script.proofs.begin.Statement.{statement}
 use Rattle.script.proofs.begin.Tie as tie
 
--- src/lib.rt:25:9
 begin-requires : tie.Need-begin-requires
 begin-requires c κs = search needs
 
--- src/lib.rt:26:5
 begun-requires : tie.Need-begun-requires
 begun-requires c κs = search needs
 
--- src/lib.rt:22:1
 same-length : tie.Need-same-length
 same-length c = search needs
 
--- src/lib.rt:22:1
 same-length-2 : tie.Need-same-length-2
 same-length-2 c = search needs
 
--- src/lib.rt:22:1
 returns : tie.Need-returns
 returns c =
     let a = c .before .before .before .before .before .before .before .before .before .before .args in

@@ -1,27 +1,24 @@
-use Rattle.script.proofs.Answers.{answer-plain, committed-plain}
-use Rattle.reply.specs.Told.{toldCommitted}
-use Rattle.paper.specs.Calls.{Call}
+-- The call, and its answer.
+-- Assumes nothing.
 use borrow.Author.Needs.{needs}
+use Rattle.paper.specs.Calls.{Call}
+use Rattle.reply.specs.Told.{toldCommitted}
+use Rattle.script.proofs.Answers.{answer-plain, committed-plain}
 use Rattle.script.proofs.commit.Statement.{statement}
 use Rattle.script.proofs.commit.Tie as tie
 
--- src/lib.rt:73:9
 commit-requires : tie.Need-commit-requires
 commit-requires c κs = search needs
 
--- src/lib.rt:74:5
 committed-requires : tie.Need-committed-requires
 committed-requires c κs = search needs
 
--- src/lib.rt:70:1
 same-length : tie.Need-same-length
 same-length c = search needs
 
--- src/lib.rt:70:1
 same-length-2 : tie.Need-same-length-2
 same-length-2 c = search needs
 
--- src/lib.rt:70:1
 returns : tie.Need-returns
 returns c =
     let a = c .before .before .before .before .before .before .before .before .before .before .args in

@@ -1,177 +1,152 @@
-use Rattle.script.proofs.Dispatch.{placed, answer-rest, line-answer}
-use Rattle.raw.specs.Bytes.{part}
-use Prim.Native.Nat.{_-_}
-use Rattle.script.proofs.Answers.{answer-none}
-use Rattle.words.specs.Commands.{callOf}
+-- The line number, and behind it the answer, by the cases of the command.
+-- Assumes nothing.
+use native.Mathlib.Omega.{arith}
+use Prim.Native.Nat.{suc, _-_, _≤_}
+use lib.ListN.{length}
+use borrow.Author.Needs.{needs}
+use Rattle.paper.specs.Bounds.{excluded, unbounded}
 use Rattle.paper.specs.Calls.{Call}
 use Rattle.paper.specs.Settings.{longest}
-use Rattle.paper.specs.Bounds.{excluded, unbounded}
-use native.Mathlib.Omega.{arith}
-use borrow.Author.Needs.{needs}
+use Rattle.raw.specs.Bytes.{part}
+use Rattle.words.specs.Commands.{callOf}
+use Rattle.script.proofs.Answers.{answer-none}
+use Rattle.script.proofs.Dispatch.{placed, answer-rest, line-answer}
 use Rattle.script.proofs.line.Statement.{statement}
 use Rattle.script.proofs.line.Tie as tie
 
--- src/lib.rt:98:9
+-- the places of a command lie within the line
+get-place : (c : tie.After-known-told) → c .before .command .given .0 .1 .0 ≤ length (c .before .before .before .before .before .before .before .before .before .before .before .args .line .now)
+get-place c = placed (c .before .before .before .before .before .before .before .before .before .before .before .args .line .now) (c .before .command .given .1) (c .before .before .before .understood .ensures .1)
+
+delete-place : (c : tie.After-known-told3) → c .before .command3 .given .0 .1 .0 ≤ length (c .before .before .before .before .before .before .before .before .before .before .before .args .line .now)
+delete-place c = placed (c .before .before .before .before .before .before .before .before .before .before .before .args .line .now) (c .before .command3 .given .1) (c .before .before .before .understood .ensures .1)
+
+above-place : (c : tie.After-known-told5) → c .before .command5 .given .0 .1 .0 ≤ length (c .before .before .before .before .before .before .before .before .before .before .before .args .line .now)
+above-place c = placed (c .before .before .before .before .before .before .before .before .before .before .before .args .line .now) (c .before .command5 .given .1) (c .before .before .before .understood .ensures .1)
+
+put-places : (c : tie.After-known-told2) → (suc (c .before .command2 .given .0 .1 .0) ≤ c .before .command2 .given .0 .1 .1 .0) × (c .before .command2 .given .0 .1 .1 .0 ≤ length (c .before .before .before .before .before .before .before .before .before .before .before .args .line .now))
+put-places c = placed (c .before .before .before .before .before .before .before .before .before .before .before .args .line .now) (c .before .command2 .given .1) (c .before .before .before .understood .ensures .1)
+
 decimal-requires : tie.Need-decimal-requires
 decimal-requires c κs = search needs
 
--- src/lib.rt:99:9
 understood-requires : tie.Need-understood-requires
 understood-requires c κs = search needs
 
--- src/lib.rt:101:33
 enum-told : tie.Need-enum-told
 enum-told c = search needs
 
--- src/lib.rt:101:27
 begin-requires : tie.Need-begin-requires
 begin-requires c κs = search needs
 
--- src/lib.rt:102:24
 enum-known-command : tie.Need-enum-known-command
 enum-known-command c = search needs
 
--- src/lib.rt:102:60
 sub-get : tie.Need-sub-get
-sub-get c = omega (arith, placed (c .before .before .before .before .before .before .before .before .before .before .before .before .args .line .now) (c .before .before .command .given .1) (c .before .before .before .before .understood .ensures .1))
+sub-get c = omega (arith, get-place (c .before))
 
--- src/lib.rt:102:60
 part-get-start : tie.Need-part-get-start
-part-get-start c = omega (arith, placed (c .before .before .before .before .before .before .before .before .before .before .before .before .args .line .now) (c .before .before .command .given .1) (c .before .before .before .before .understood .ensures .1))
+part-get-start c = omega (arith, get-place (c .before))
 
--- src/lib.rt:102:60
 part-get-end : tie.Need-part-get-end
 part-get-end c = search needs
 
--- src/lib.rt:102:41
 get-requires : tie.Need-get-requires
 get-requires c κs = search needs
 
--- src/lib.rt:103:24
 enum-known-command-2 : tie.Need-enum-known-command-2
 enum-known-command-2 c = search needs
 
--- src/lib.rt:106:24
 sub-put : tie.Need-sub-put
-sub-put c = let w = placed (c .before .before .before .before .before .before .before .before .before .before .before .before .args .line .now) (c .before .before .command2 .given .1) (c .before .before .before .before .understood .ensures .1) in omega (arith, w .0, w .1)
+sub-put c = let w = put-places (c .before) in omega (arith, w .0, w .1)
 
--- src/lib.rt:106:13
 sub-put-2 : tie.Need-sub-put-2
-sub-put-2 c = let w = placed (c .before .before .before .before .before .before .before .before .before .before .before .before .args .line .now) (c .before .before .command2 .given .1) (c .before .before .before .before .understood .ensures .1) in omega (arith, w .0, w .1)
+sub-put-2 c = let w = put-places (c .before) in omega (arith, w .0, w .1)
 
--- src/lib.rt:106:13
 part-put-start : tie.Need-part-put-start
-part-put-start c = let w = placed (c .before .before .before .before .before .before .before .before .before .before .before .before .args .line .now) (c .before .before .command2 .given .1) (c .before .before .before .before .understood .ensures .1) in omega (arith, w .0, w .1)
+part-put-start c = let w = put-places (c .before) in omega (arith, w .0, w .1)
 
--- src/lib.rt:106:13
 part-put-end : tie.Need-part-put-end
-part-put-end c = let w = placed (c .before .before .before .before .before .before .before .before .before .before .before .before .args .line .now) (c .before .before .command2 .given .1) (c .before .before .before .before .understood .ensures .1) in omega (arith, w .0, w .1)
+part-put-end c = let w = put-places (c .before) in omega (arith, w .0, w .1)
 
--- src/lib.rt:107:13
 sub-put-3 : tie.Need-sub-put-3
-sub-put-3 c = let w = placed (c .before .before .before .before .before .before .before .before .before .before .before .before .before .args .line .now) (c .before .before .before .command2 .given .1) (c .before .before .before .before .before .understood .ensures .1) in omega (arith, w .0, w .1)
+sub-put-3 c = let w = put-places (c .before .before) in omega (arith, w .0, w .1)
 
--- src/lib.rt:107:13
 part-put-start-2 : tie.Need-part-put-start-2
-part-put-start-2 c = let w = placed (c .before .before .before .before .before .before .before .before .before .before .before .before .before .args .line .now) (c .before .before .before .command2 .given .1) (c .before .before .before .before .before .understood .ensures .1) in omega (arith, w .0, w .1)
+part-put-start-2 c = let w = put-places (c .before .before) in omega (arith, w .0, w .1)
 
--- src/lib.rt:107:13
 part-put-end-2 : tie.Need-part-put-end-2
 part-put-end-2 c = search needs
 
--- src/lib.rt:103:48
 put-requires : tie.Need-put-requires
 put-requires c κs = search needs
 
--- src/lib.rt:111:27
 enum-known-command-3 : tie.Need-enum-known-command-3
 enum-known-command-3 c = search needs
 
--- src/lib.rt:111:66
 sub-delete : tie.Need-sub-delete
-sub-delete c = omega (arith, placed (c .before .before .before .before .before .before .before .before .before .before .before .before .args .line .now) (c .before .before .command3 .given .1) (c .before .before .before .before .understood .ensures .1))
+sub-delete c = omega (arith, delete-place (c .before))
 
--- src/lib.rt:111:66
 part-delete-start : tie.Need-part-delete-start
-part-delete-start c = omega (arith, placed (c .before .before .before .before .before .before .before .before .before .before .before .before .args .line .now) (c .before .before .command3 .given .1) (c .before .before .before .before .understood .ensures .1))
+part-delete-start c = omega (arith, delete-place (c .before))
 
--- src/lib.rt:111:66
 part-delete-end : tie.Need-part-delete-end
 part-delete-end c = search needs
 
--- src/lib.rt:111:44
 delete-requires : tie.Need-delete-requires
 delete-requires c κs = search needs
 
--- src/lib.rt:112:26
 enum-known-command-4 : tie.Need-enum-known-command-4
 enum-known-command-4 c = search needs
 
--- src/lib.rt:112:38
 scan-requires : tie.Need-scan-requires
 scan-requires c κs = search needs
 
--- src/lib.rt:113:26
 enum-known-command-5 : tie.Need-enum-known-command-5
 enum-known-command-5 c = search needs
 
--- src/lib.rt:114:49
 sub-scan : tie.Need-sub-scan
-sub-scan c = omega (arith, placed (c .before .before .before .before .before .before .before .before .before .before .before .before .args .line .now) (c .before .before .command5 .given .1) (c .before .before .before .before .understood .ensures .1))
+sub-scan c = omega (arith, above-place (c .before))
 
--- src/lib.rt:114:49
 part-scan-start : tie.Need-part-scan-start
-part-scan-start c = omega (arith, placed (c .before .before .before .before .before .before .before .before .before .before .before .before .args .line .now) (c .before .before .command5 .given .1) (c .before .before .before .before .understood .ensures .1))
+part-scan-start c = omega (arith, above-place (c .before))
 
--- src/lib.rt:114:49
 part-scan-end : tie.Need-part-scan-end
 part-scan-end c = search needs
 
--- src/lib.rt:114:13
 scan-requires-2 : tie.Need-scan-requires-2
 scan-requires-2 c κs = search needs
 
--- src/lib.rt:116:27
 enum-known-command-6 : tie.Need-enum-known-command-6
 enum-known-command-6 c = search needs
 
--- src/lib.rt:116:39
 commit-requires : tie.Need-commit-requires
 commit-requires c κs = search needs
 
--- src/lib.rt:117:24
 enum-known-command-7 : tie.Need-enum-known-command-7
 enum-known-command-7 c = search needs
 
--- src/lib.rt:117:36
 end-requires : tie.Need-end-requires
 end-requires c κs = search needs
 
--- src/lib.rt:118:35
 enum-told-2 : tie.Need-enum-told-2
 enum-told-2 c = search needs
 
--- src/lib.rt:118:28
 freeze-requires : tie.Need-freeze-requires
 freeze-requires c κs = search needs
 
--- src/lib.rt:119:43
 enum-told-3 : tie.Need-enum-told-3
 enum-told-3 c = search needs
 
--- src/lib.rt:119:29
 only-requires : tie.Need-only-requires
 only-requires c κs = search needs
 
--- src/lib.rt:95:1
 same-length : tie.Need-same-length
 same-length c = search needs
 
--- src/lib.rt:95:1
 same-length-2 : tie.Need-same-length-2
 same-length-2 c = search needs
 
--- src/lib.rt:95:1
 returns : tie.Need-returns
 unfolding callOf
 returns c =
@@ -179,15 +154,12 @@ returns c =
     let d = c .before .before .before .before .before .before .before .before .before .before .before .before .decimal in
     line-answer (a .number) (a .line .now) (a .state .now) (a .out .now) (a .at) (c .before .before .before .before .before .before .before .enum-told .given .1) (c .before .before .before .before .before .before .before .before .before .understood .ensures .0) (d .ensures) (c .before .before .before .before .begin .ensures)
 
--- src/lib.rt:95:1
 same-length-3 : tie.Need-same-length-3
 same-length-3 c = search needs
 
--- src/lib.rt:95:1
 same-length-4 : tie.Need-same-length-4
 same-length-4 c = search needs
 
--- src/lib.rt:95:1
 returns-2 : tie.Need-returns-2
 unfolding callOf
 returns-2 c =
@@ -196,15 +168,12 @@ returns-2 c =
     let g = c .before .before .before .before .before .before .before .before .before .command .given in
     line-answer (a .number) (a .line .now) (a .state .now) (a .out .now) (a .at) (g .1) (c .before .before .before .before .before .before .before .before .before .before .before .understood .ensures .0) (d .ensures) (answer-rest (λ x. Call.get (g .0 .0) x longest) (a .line .now) (g .0 .1 .0) (a .state .now) (d .last .0) (d .result) (c .before .before .before .before .get .ensures))
 
--- src/lib.rt:95:1
 same-length-5 : tie.Need-same-length-5
 same-length-5 c = search needs
 
--- src/lib.rt:95:1
 same-length-6 : tie.Need-same-length-6
 same-length-6 c = search needs
 
--- src/lib.rt:95:1
 returns-3 : tie.Need-returns-3
 unfolding callOf
 returns-3 c =
@@ -213,15 +182,12 @@ returns-3 c =
     let g = c .before .before .before .before .before .before .before .before .before .before .command2 .given in
     line-answer (a .number) (a .line .now) (a .state .now) (a .out .now) (a .at) (g .1) (c .before .before .before .before .before .before .before .before .before .before .before .before .understood .ensures .0) (d .ensures) (answer-rest (λ x. Call.put (g .0 .0) (part (a .line .now) (g .0 .1 .0) (g .0 .1 .1 .0 - 1 - g .0 .1 .0)) x) (a .line .now) (g .0 .1 .1 .0) (a .state .now) (d .last .0) (d .result) (c .before .before .before .before .put .ensures))
 
--- src/lib.rt:95:1
 same-length-7 : tie.Need-same-length-7
 same-length-7 c = search needs
 
--- src/lib.rt:95:1
 same-length-8 : tie.Need-same-length-8
 same-length-8 c = search needs
 
--- src/lib.rt:95:1
 returns-4 : tie.Need-returns-4
 unfolding callOf
 returns-4 c =
@@ -230,15 +196,12 @@ returns-4 c =
     let g = c .before .before .before .before .before .before .before .before .before .command3 .given in
     line-answer (a .number) (a .line .now) (a .state .now) (a .out .now) (a .at) (g .1) (c .before .before .before .before .before .before .before .before .before .before .before .understood .ensures .0) (d .ensures) (answer-rest (λ x. Call.delete (g .0 .0) x) (a .line .now) (g .0 .1 .0) (a .state .now) (d .last .0) (d .result) (c .before .before .before .before .delete .ensures))
 
--- src/lib.rt:95:1
 same-length-9 : tie.Need-same-length-9
 same-length-9 c = search needs
 
--- src/lib.rt:95:1
 same-length-10 : tie.Need-same-length-10
 same-length-10 c = search needs
 
--- src/lib.rt:95:1
 returns-5 : tie.Need-returns-5
 unfolding callOf
 returns-5 c =
@@ -246,15 +209,12 @@ returns-5 c =
     let d = c .before .before .before .before .before .before .before .before .before .before .before .before .before .decimal in
     line-answer (a .number) (a .line .now) (a .state .now) (a .out .now) (a .at) (c .before .before .before .before .before .before .before .before .command4 .given .1) (c .before .before .before .before .before .before .before .before .before .before .understood .ensures .0) (d .ensures) (c .before .before .before .before .scan .ensures)
 
--- src/lib.rt:95:1
 same-length-11 : tie.Need-same-length-11
 same-length-11 c = search needs
 
--- src/lib.rt:95:1
 same-length-12 : tie.Need-same-length-12
 same-length-12 c = search needs
 
--- src/lib.rt:95:1
 returns-6 : tie.Need-returns-6
 unfolding callOf
 returns-6 c =
@@ -263,15 +223,12 @@ returns-6 c =
     let g = c .before .before .before .before .before .before .before .before .before .command5 .given in
     line-answer (a .number) (a .line .now) (a .state .now) (a .out .now) (a .at) (g .1) (c .before .before .before .before .before .before .before .before .before .before .before .understood .ensures .0) (d .ensures) (answer-rest (λ x. Call.scan (g .0 .0) (excluded x) unbounded longest longest) (a .line .now) (g .0 .1 .0) (a .state .now) (d .last .0) (d .result) (c .before .before .before .before .scan2 .ensures))
 
--- src/lib.rt:95:1
 same-length-13 : tie.Need-same-length-13
 same-length-13 c = search needs
 
--- src/lib.rt:95:1
 same-length-14 : tie.Need-same-length-14
 same-length-14 c = search needs
 
--- src/lib.rt:95:1
 returns-7 : tie.Need-returns-7
 unfolding callOf
 returns-7 c =
@@ -279,15 +236,12 @@ returns-7 c =
     let d = c .before .before .before .before .before .before .before .before .before .before .before .before .before .decimal in
     line-answer (a .number) (a .line .now) (a .state .now) (a .out .now) (a .at) (c .before .before .before .before .before .before .before .before .command6 .given .1) (c .before .before .before .before .before .before .before .before .before .before .understood .ensures .0) (d .ensures) (c .before .before .before .before .commit .ensures)
 
--- src/lib.rt:95:1
 same-length-15 : tie.Need-same-length-15
 same-length-15 c = search needs
 
--- src/lib.rt:95:1
 same-length-16 : tie.Need-same-length-16
 same-length-16 c = search needs
 
--- src/lib.rt:95:1
 returns-8 : tie.Need-returns-8
 unfolding callOf
 returns-8 c =
@@ -295,15 +249,12 @@ returns-8 c =
     let d = c .before .before .before .before .before .before .before .before .before .before .before .before .before .decimal in
     line-answer (a .number) (a .line .now) (a .state .now) (a .out .now) (a .at) (c .before .before .before .before .before .before .before .before .command7 .given .1) (c .before .before .before .before .before .before .before .before .before .before .understood .ensures .0) (d .ensures) (c .before .before .before .before .end .ensures)
 
--- src/lib.rt:95:1
 same-length-17 : tie.Need-same-length-17
 same-length-17 c = search needs
 
--- src/lib.rt:95:1
 same-length-18 : tie.Need-same-length-18
 same-length-18 c = search needs
 
--- src/lib.rt:95:1
 returns-9 : tie.Need-returns-9
 unfolding callOf
 returns-9 c =
@@ -311,11 +262,9 @@ returns-9 c =
     let d = c .before .before .before .before .before .before .before .before .before .before .before .before .decimal in
     line-answer (a .number) (a .line .now) (a .state .now) (a .out .now) (a .at) (c .before .before .before .before .before .before .before .enum-told2 .given .1) (c .before .before .before .before .before .before .before .before .before .understood .ensures .0) (d .ensures) (c .before .before .before .before .freeze .ensures)
 
--- src/lib.rt:95:1
 same-length-19 : tie.Need-same-length-19
 same-length-19 c = search needs
 
--- src/lib.rt:95:1
 returns-10 : tie.Need-returns-10
 unfolding callOf
 returns-10 c =

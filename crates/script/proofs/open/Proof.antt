@@ -1,35 +1,30 @@
-use Rattle.script.proofs.Opening.{opened-in}
-use Rattle.reply.specs.Told.{toldSettled}
-use Rattle.paper.specs.Replay.{replaySettings}
+-- An opening without runs, over a buffer that is long enough.
+-- Assumes nothing.
 use borrow.Author.Needs.{needs}
+use Rattle.paper.specs.Replay.{replaySettings}
+use Rattle.reply.specs.Told.{toldSettled}
+use Rattle.script.proofs.Opening.{opened-in}
 use Rattle.script.proofs.open.Statement.{statement}
 use Rattle.script.proofs.open.Tie as tie
 
--- src/lib.rt:109:34
 slice-aggregate-open : tie.Need-slice-aggregate-open
 slice-aggregate-open c = search needs
 
--- src/lib.rt:109:39
 sub-open : tie.Need-sub-open
 sub-open c = search needs
 
--- src/lib.rt:109:39
 part-open-start : tie.Need-part-open-start
 part-open-start c = search needs
 
--- src/lib.rt:109:39
 part-open-end : tie.Need-part-open-end
 part-open-end c = search needs
 
--- src/lib.rt:109:5
 open-requires : tie.Need-open-requires
 open-requires c κs = search needs
 
--- src/lib.rt:93:1
 same-length : tie.Need-same-length
 same-length c = search needs
 
--- src/lib.rt:93:1
 returns : tie.Need-returns
 unfolding replaySettings
 returns c =

@@ -1,27 +1,24 @@
-use Rattle.script.proofs.Answers.{answer-plain, settled-plain}
-use Rattle.reply.specs.Told.{toldSettled}
-use Rattle.paper.specs.Calls.{Call}
+-- The call, and its answer.
+-- Assumes nothing.
 use borrow.Author.Needs.{needs}
+use Rattle.paper.specs.Calls.{Call}
+use Rattle.reply.specs.Told.{toldSettled}
+use Rattle.script.proofs.Answers.{answer-plain, settled-plain}
 use Rattle.script.proofs.put.Statement.{statement}
 use Rattle.script.proofs.put.Tie as tie
 
--- src/lib.rt:59:9
 put-requires : tie.Need-put-requires
 put-requires c κs = search needs
 
--- src/lib.rt:60:5
 settled-requires : tie.Need-settled-requires
 settled-requires c κs = search needs
 
--- src/lib.rt:56:1
 same-length : tie.Need-same-length
 same-length c = search needs
 
--- src/lib.rt:56:1
 same-length-2 : tie.Need-same-length-2
 same-length-2 c = search needs
 
--- src/lib.rt:56:1
 returns : tie.Need-returns
 returns c =
     let a = c .before .before .before .before .before .before .before .before .before .before .before .before .args in

@@ -1,51 +1,43 @@
-use Rattle.script.proofs.Whole.{long-enough, too-long, run-whole}
-use Rattle.printing.specs.Shown.{shown}
-use lib.ListN.{replicate, length-replicate}
-use Prim.Native.Nat.{ℕ}
+-- An input that is too long, and one whose lines are read.
+-- Assumes nothing.
 use mathlib.Core.Path.{ap, _∙_}
+use Prim.Native.Nat.{ℕ}
+use lib.ListN.{replicate, length-replicate}
 use borrow.Author.Needs.{needs}
+use Rattle.printing.specs.Shown.{shown}
+use Rattle.script.proofs.Whole.{long-enough, too-long, run-whole}
 use Rattle.script.proofs.replay.Statement.{statement}
 use Rattle.script.proofs.replay.Tie as tie
 
--- src/lib.rt:167:39
 slice-aggregate-text : tie.Need-slice-aggregate-text
 slice-aggregate-text c = search needs
 
--- src/lib.rt:167:9
 text-requires : tie.Need-text-requires
 text-requires c κs = search needs
 
--- src/lib.rt:167:9
 same-length : tie.Need-same-length
 same-length c = search needs
 
--- src/lib.rt:167:9
 returns : tie.Need-returns
 returns c =
     let a = c .before .before .before .before .before .before .before .before .args in
     c .before .before .text .ensures ∙ ap (shown (a .out .now) 0) (too-long (a .input .now) (c .before .before .before .before .before .if1 .taken))
 
--- src/lib.rt:170:10
 slice-aggregate-open : tie.Need-slice-aggregate-open
 slice-aggregate-open c = search needs
 
--- src/lib.rt:170:5
 open-requires : tie.Need-open-requires
 open-requires c κs = long-enough (replicate 54776 0) (length-replicate {A = ℕ} 54776 0)
 
--- src/lib.rt:171:11
 slice-aggregate-lines : tie.Need-slice-aggregate-lines
 slice-aggregate-lines c = search needs
 
--- src/lib.rt:171:5
 lines-requires : tie.Need-lines-requires
 lines-requires c κs = search needs
 
--- src/lib.rt:163:1
 same-length-2 : tie.Need-same-length-2
 same-length-2 c = search needs
 
--- src/lib.rt:163:1
 returns-2 : tie.Need-returns-2
 returns-2 c =
     let a = c .before .before .before .before .before .before .before .before .before .before .before .before .args in

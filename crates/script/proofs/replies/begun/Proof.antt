@@ -1,50 +1,43 @@
-use Rattle.script.proofs.Refusing.{case-shown, refused-shown}
-use Rattle.script.specs.OnLines.{behindNumber}
-use Rattle.reply.specs.Read.{replyRead}
-use Rattle.reply.specs.Told.{toldBegun, refusalOf}
-use Rattle.paper.specs.Replay.{fieldsOf}
-use Rattle.paper.specs.Calls.{replyNumber}
+-- By the cases of the reply.
+-- Assumes nothing.
 use mathlib.Core.List.{[]}
 use borrow.Author.Needs.{needs}
+use Rattle.paper.specs.Calls.{replyNumber}
+use Rattle.paper.specs.Replay.{fieldsOf}
+use Rattle.reply.specs.Read.{replyRead}
+use Rattle.reply.specs.Told.{toldBegun, refusalOf}
+use Rattle.script.proofs.ByCase.{case-shown, refused-shown}
+use Rattle.script.specs.OnLines.{behindNumber}
 use Rattle.script.proofs.replies.begun.Statement.{statement}
 use Rattle.script.proofs.replies.begun.Tie as tie
 
--- src/replies.rt:82:22
 enum-known-reply : tie.Need-enum-known-reply
 enum-known-reply c = search needs
 
--- src/replies.rt:82:40
 with-numbers-requires : tie.Need-with-numbers-requires
 with-numbers-requires c κs = search needs
 
--- src/replies.rt:83:26
 enum-known-reply-2 : tie.Need-enum-known-reply-2
 enum-known-reply-2 c = search needs
 
--- src/replies.rt:83:49
 number-requires : tie.Need-number-requires
 number-requires c κs = search needs
 
--- src/replies.rt:83:35
 only-requires : tie.Need-only-requires
 only-requires c κs = search needs
 
--- src/replies.rt:78:1
 same-length : tie.Need-same-length
 same-length c = search needs
 
--- src/replies.rt:78:1
 returns : tie.Need-returns
 unfolding behindNumber replyRead replyNumber fieldsOf
 returns c =
     let a = c .before .before .before .before .before .before .before .before .args in
     case-shown (a .out .now) (a .at) toldBegun [] [] (c .before .before .before .before .before .reply .given .1) (c .before .before .with-numbers .ensures)
 
--- src/replies.rt:78:1
 same-length-2 : tie.Need-same-length-2
 same-length-2 c = search needs
 
--- src/replies.rt:78:1
 returns-2 : tie.Need-returns-2
 unfolding replyRead
 returns-2 c =

@@ -1,73 +1,61 @@
-use Rattle.script.proofs.Refusing.{case-shown, refused-shown}
-use Rattle.script.specs.OnLines.{behindNumber}
-use Rattle.reply.specs.Read.{replyRead}
-use Rattle.reply.specs.Told.{toldCommitted, refusalOf}
-use Rattle.paper.specs.Replay.{fieldsOf}
-use Rattle.paper.specs.Calls.{replyNumber}
+-- By the cases of the reply.
+-- Assumes nothing.
 use mathlib.Core.List.{[]}
 use borrow.Author.Needs.{needs}
+use Rattle.paper.specs.Calls.{replyNumber}
+use Rattle.paper.specs.Replay.{fieldsOf}
+use Rattle.reply.specs.Read.{replyRead}
+use Rattle.reply.specs.Told.{toldCommitted, refusalOf}
+use Rattle.script.proofs.ByCase.{case-shown, refused-shown}
+use Rattle.script.specs.OnLines.{behindNumber}
 use Rattle.script.proofs.replies.committed.Statement.{statement}
 use Rattle.script.proofs.replies.committed.Tie as tie
 
--- src/replies.rt:115:29
 enum-known-reply : tie.Need-enum-known-reply
 enum-known-reply c = search needs
 
--- src/replies.rt:115:41
 with-number-requires : tie.Need-with-number-requires
 with-number-requires c κs = search needs
 
--- src/replies.rt:116:42
 enum-told : tie.Need-enum-told
 enum-told c = search needs
 
--- src/replies.rt:116:51
 slice-aggregate-with-text : tie.Need-slice-aggregate-with-text
 slice-aggregate-with-text c = search needs
 
--- src/replies.rt:116:32
 with-text-requires : tie.Need-with-text-requires
 with-text-requires c κs = search needs
 
--- src/replies.rt:117:30
 enum-known-reply-2 : tie.Need-enum-known-reply-2
 enum-known-reply-2 c = search needs
 
--- src/replies.rt:117:53
 number-requires : tie.Need-number-requires
 number-requires c κs = search needs
 
--- src/replies.rt:117:39
 only-requires : tie.Need-only-requires
 only-requires c κs = search needs
 
--- src/replies.rt:111:1
 same-length : tie.Need-same-length
 same-length c = search needs
 
--- src/replies.rt:111:1
 returns : tie.Need-returns
 unfolding behindNumber replyRead replyNumber fieldsOf
 returns c =
     let a = c .before .before .before .before .before .before .before .before .args in
     case-shown (a .out .now) (a .at) toldCommitted [] [] (c .before .before .before .before .before .reply .given .1) (c .before .before .with-number .ensures)
 
--- src/replies.rt:111:1
 same-length-2 : tie.Need-same-length-2
 same-length-2 c = search needs
 
--- src/replies.rt:111:1
 returns-2 : tie.Need-returns-2
 unfolding behindNumber replyRead replyNumber fieldsOf
 returns-2 c =
     let a = c .before .before .before .before .before .before .before .before .args in
     case-shown (a .out .now) (a .at) toldCommitted [] [] (c .before .before .before .before .before .enum-told .given .1) (c .before .before .with-text .ensures)
 
--- src/replies.rt:111:1
 same-length-3 : tie.Need-same-length-3
 same-length-3 c = search needs
 
--- src/replies.rt:111:1
 returns-3 : tie.Need-returns-3
 unfolding replyRead
 returns-3 c =

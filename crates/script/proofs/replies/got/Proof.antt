@@ -1,78 +1,65 @@
-use Rattle.script.proofs.Answers.{value-taken}
-use Rattle.script.proofs.Refusing.{case-shown, refused-shown}
-use Rattle.script.specs.OnLines.{behindNumber}
-use Rattle.reply.specs.Read.{replyRead}
-use Rattle.reply.specs.Told.{toldGot, refusalOf}
-use Rattle.paper.specs.Replay.{fieldsOf}
-use Rattle.paper.specs.Calls.{replyNumber}
+-- By the cases of the reply; the value read off lies within its buffer.
+-- Assumes nothing.
 use mathlib.Core.List.{[]}
 use borrow.Author.Needs.{needs}
+use Rattle.paper.specs.Calls.{replyNumber}
+use Rattle.paper.specs.Replay.{fieldsOf}
+use Rattle.reply.specs.Read.{replyRead}
+use Rattle.reply.specs.Told.{toldGot, refusalOf}
+use Rattle.script.proofs.Answers.{value-taken}
+use Rattle.script.proofs.ByCase.{case-shown, refused-shown}
+use Rattle.script.specs.OnLines.{behindNumber}
 use Rattle.script.proofs.replies.got.Statement.{statement}
 use Rattle.script.proofs.replies.got.Tie as tie
 
--- src/replies.rt:93:22
 enum-known-reply : tie.Need-enum-known-reply
 enum-known-reply c = search needs
 
--- src/replies.rt:93:53
 slice-aggregate-with-text : tie.Need-slice-aggregate-with-text
 slice-aggregate-with-text c = value-taken (c .before .before .before .before .before .before .before .args .value .now) (c .before .before .before .reply .given .1) (c .before .before .before .before .before .before .before .pre)
 
--- src/replies.rt:93:34
 with-text-requires : tie.Need-with-text-requires
 with-text-requires c κs = search needs
 
--- src/replies.rt:94:34
 enum-told : tie.Need-enum-told
 enum-told c = search needs
 
--- src/replies.rt:94:43
 slice-aggregate-with-text-2 : tie.Need-slice-aggregate-with-text-2
 slice-aggregate-with-text-2 c = search needs
 
--- src/replies.rt:94:24
 with-text-requires-2 : tie.Need-with-text-requires-2
 with-text-requires-2 c κs = search needs
 
--- src/replies.rt:95:24
 enum-known-reply-2 : tie.Need-enum-known-reply-2
 enum-known-reply-2 c = search needs
 
--- src/replies.rt:95:47
 number-requires : tie.Need-number-requires
 number-requires c κs = search needs
 
--- src/replies.rt:95:33
 only-requires : tie.Need-only-requires
 only-requires c κs = search needs
 
--- src/replies.rt:88:1
 same-length : tie.Need-same-length
 same-length c = search needs
 
--- src/replies.rt:88:1
 returns : tie.Need-returns
 unfolding behindNumber replyRead replyNumber fieldsOf
 returns c =
     let a = c .before .before .before .before .before .before .before .before .before .before .args in
     case-shown (a .out .now) (a .at) toldGot [] (a .value .now) (c .before .before .before .before .before .before .reply .given .1) (c .before .before .with-text .ensures)
 
--- src/replies.rt:88:1
 same-length-2 : tie.Need-same-length-2
 same-length-2 c = search needs
 
--- src/replies.rt:88:1
 returns-2 : tie.Need-returns-2
 unfolding behindNumber replyRead replyNumber fieldsOf
 returns-2 c =
     let a = c .before .before .before .before .before .before .before .before .before .args in
     case-shown (a .out .now) (a .at) toldGot [] (a .value .now) (c .before .before .before .before .before .enum-told .given .1) (c .before .before .with-text2 .ensures)
 
--- src/replies.rt:88:1
 same-length-3 : tie.Need-same-length-3
 same-length-3 c = search needs
 
--- src/replies.rt:88:1
 returns-3 : tie.Need-returns-3
 unfolding replyRead
 returns-3 c =

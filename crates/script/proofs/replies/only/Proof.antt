@@ -1,26 +1,23 @@
-use Rattle.script.proofs.Showing.{one-field}
-use Rattle.paper.specs.Replay.{decimalOf}
+-- The number, and the LF behind it.
+-- Assumes nothing.
 use borrow.Author.Needs.{needs}
+use Rattle.paper.specs.Replay.{decimalOf}
+use Rattle.script.proofs.Showing.{one-field}
 use Rattle.script.proofs.replies.only.Statement.{statement}
 use Rattle.script.proofs.replies.only.Tie as tie
 
--- src/replies.rt:25:9
 number-requires : tie.Need-number-requires
 number-requires c κs = search needs
 
--- src/replies.rt:26:30
 slice-aggregate-text : tie.Need-slice-aggregate-text
 slice-aggregate-text c = search needs
 
--- src/replies.rt:26:5
 text-requires : tie.Need-text-requires
 text-requires c κs = search needs
 
--- src/replies.rt:22:1
 same-length : tie.Need-same-length
 same-length c = search needs
 
--- src/replies.rt:22:1
 returns : tie.Need-returns
 returns c =
     let a = c .before .before .before .before .before .before .before .before .before .before .args in

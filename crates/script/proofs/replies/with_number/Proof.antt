@@ -1,34 +1,29 @@
-use Rattle.script.proofs.Showing.{two-fields}
-use Rattle.paper.specs.Replay.{decimalOf}
+-- Three texts, one behind the other.
+-- Assumes nothing.
 use borrow.Author.Needs.{needs}
+use Rattle.paper.specs.Replay.{decimalOf}
+use Rattle.script.proofs.Showing.{two-fields}
 use Rattle.script.proofs.replies.with_number.Statement.{statement}
 use Rattle.script.proofs.replies.with_number.Tie as tie
 
--- src/replies.rt:52:41
 slice-aggregate-text : tie.Need-slice-aggregate-text
 slice-aggregate-text c = search needs
 
--- src/replies.rt:52:9
 text-requires : tie.Need-text-requires
 text-requires c κs = search needs
 
--- src/replies.rt:53:9
 number-requires : tie.Need-number-requires
 number-requires c κs = search needs
 
--- src/replies.rt:54:30
 slice-aggregate-text-2 : tie.Need-slice-aggregate-text-2
 slice-aggregate-text-2 c = search needs
 
--- src/replies.rt:54:5
 text-requires-2 : tie.Need-text-requires-2
 text-requires-2 c κs = search needs
 
--- src/replies.rt:49:1
 same-length : tie.Need-same-length
 same-length c = search needs
 
--- src/replies.rt:49:1
 returns : tie.Need-returns
 returns c =
     let a = c .before .before .before .before .before .before .before .before .before .before .before .before .before .before .before .args in

@@ -1,38 +1,32 @@
-use Rattle.script.proofs.Showing.{three-fields}
-use Rattle.paper.specs.Replay.{decimalOf}
+-- Four texts, one behind the other.
+-- Assumes nothing.
 use borrow.Author.Needs.{needs}
+use Rattle.paper.specs.Replay.{decimalOf}
+use Rattle.script.proofs.Showing.{three-fields}
 use Rattle.script.proofs.replies.with_numbers.Statement.{statement}
 use Rattle.script.proofs.replies.with_numbers.Tie as tie
 
--- src/replies.rt:61:41
 slice-aggregate-text : tie.Need-slice-aggregate-text
 slice-aggregate-text c = search needs
 
--- src/replies.rt:61:9
 text-requires : tie.Need-text-requires
 text-requires c κs = search needs
 
--- src/replies.rt:62:9
 number-requires : tie.Need-number-requires
 number-requires c κs = search needs
 
--- src/replies.rt:63:9
 number-requires-2 : tie.Need-number-requires-2
 number-requires-2 c κs = search needs
 
--- src/replies.rt:64:30
 slice-aggregate-text-2 : tie.Need-slice-aggregate-text-2
 slice-aggregate-text-2 c = search needs
 
--- src/replies.rt:64:5
 text-requires-2 : tie.Need-text-requires-2
 text-requires-2 c κs = search needs
 
--- src/replies.rt:58:1
 same-length : tie.Need-same-length
 same-length c = search needs
 
--- src/replies.rt:58:1
 returns : tie.Need-returns
 returns c =
     let a = c .before .before .before .before .before .before .before .before .before .before .before .before .before .before .before .before .before .before .before .args in

@@ -1,33 +1,28 @@
-use Rattle.script.proofs.Showing.{two-fields}
+-- Three texts, one behind the other.
+-- Assumes nothing.
 use borrow.Author.Needs.{needs}
+use Rattle.script.proofs.Showing.{two-fields}
 use Rattle.script.proofs.replies.with_text.Statement.{statement}
 use Rattle.script.proofs.replies.with_text.Tie as tie
 
--- src/replies.rt:33:41
 slice-aggregate-text : tie.Need-slice-aggregate-text
 slice-aggregate-text c = search needs
 
--- src/replies.rt:33:9
 text-requires : tie.Need-text-requires
 text-requires c κs = search needs
 
--- src/replies.rt:34:9
 word-requires : tie.Need-word-requires
 word-requires c κs = search needs
 
--- src/replies.rt:35:30
 slice-aggregate-text-2 : tie.Need-slice-aggregate-text-2
 slice-aggregate-text-2 c = search needs
 
--- src/replies.rt:35:5
 text-requires-2 : tie.Need-text-requires-2
 text-requires-2 c κs = search needs
 
--- src/replies.rt:30:1
 same-length : tie.Need-same-length
 same-length c = search needs
 
--- src/replies.rt:30:1
 returns : tie.Need-returns
 returns c =
     let a = c .before .before .before .before .before .before .before .before .before .before .before .before .before .before .before .before .args in

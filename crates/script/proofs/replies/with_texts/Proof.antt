@@ -1,37 +1,31 @@
-use Rattle.script.proofs.Showing.{three-fields}
+-- Four texts, one behind the other.
+-- Assumes nothing.
 use borrow.Author.Needs.{needs}
+use Rattle.script.proofs.Showing.{three-fields}
 use Rattle.script.proofs.replies.with_texts.Statement.{statement}
 use Rattle.script.proofs.replies.with_texts.Tie as tie
 
--- src/replies.rt:42:41
 slice-aggregate-text : tie.Need-slice-aggregate-text
 slice-aggregate-text c = search needs
 
--- src/replies.rt:42:9
 text-requires : tie.Need-text-requires
 text-requires c κs = search needs
 
--- src/replies.rt:43:9
 word-requires : tie.Need-word-requires
 word-requires c κs = search needs
 
--- src/replies.rt:44:9
 word-requires-2 : tie.Need-word-requires-2
 word-requires-2 c κs = search needs
 
--- src/replies.rt:45:30
 slice-aggregate-text-2 : tie.Need-slice-aggregate-text-2
 slice-aggregate-text-2 c = search needs
 
--- src/replies.rt:45:5
 text-requires-2 : tie.Need-text-requires-2
 text-requires-2 c κs = search needs
 
--- src/replies.rt:39:1
 same-length : tie.Need-same-length
 same-length c = search needs
 
--- src/replies.rt:39:1
 returns : tie.Need-returns
 returns c =
     let a = c .before .before .before .before .before .before .before .before .before .before .before .before .before .before .before .before .before .before .before .before .before .args in
