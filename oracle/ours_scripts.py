@@ -101,6 +101,7 @@ class Store:
         """The number returned. What the call may not change is looked at."""
         self.key.clear()
         self.value.clear()
+        self.reply[:] = [FILL] * 3
         before = self.state.held()
         number = getattr(self.library, 'ngalovuki_' + name)(self.state.bytes, self.state.size, *told)
         after = self.state.held()
@@ -113,6 +114,8 @@ class Store:
         if number != 0:
             self.key.only(0)
             self.value.only(0)
+            if self.reply[:] != [FILL] * 3:
+                broken(f'{name} returned {number} and changed the reply')
         return number
 
     def answer(self, letter, handle=None, *words):

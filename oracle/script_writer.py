@@ -201,6 +201,9 @@ def freezes(w):
             w.write(handle, w.rng.choice(w.keys))
         w.commit(handle)
         w.say('z')
+    handle = w.begin()
+    for key in w.keys:
+        w.say('g', handle, key)
     w.steps(60, g=30, f=30, z=2)
 
 
@@ -300,6 +303,7 @@ def history_hashes(w):
             hashes += count
         else:
             w.say('z')
+    w.say('z')
     handle = w.begin()
     for _ in range(store.HASHES - hashes + w.near()):
         w.say('d', handle, w.new_key())
@@ -371,9 +375,8 @@ def garbled(rng, line):
     fields = line.split(b' ')
     at = rng.randrange(len(fields))
     odd = bytes([rng.choice((0, 9, 11, 13, 32, 39, 43, 45, 46, 47, 58, 64, 91, 95, 96, 123, 127, 128, 195, 233, 255))])
-    last = rng.choice((2**64 - 1, 2**64, 2**64 + 1, 10**20 - 1, 10**40))
-    number = rng.choice((b'%d' % last, b'%d' % last, b'0%d' % last, b'0', b'00', b'01', b'+1', b'-1', b'0x1', b'1e0', b'1.',
-                         b'', b'-'))
+    large = b'%d' % rng.choice((2**64 - 1, 2**64, 2**64 + 1, 10**20 - 1, 10**40))
+    number = rng.choice((b'0' + large, b'0', b'00', b'01', b'+1', b'-1', b'0x1', b'1e0', b'1.', b'', b'-'))
     word = rng.choice((b'-', b'', b'a' * 16, b'a' * 17, b'a' * 300, b'--', b'a_b', b'a' * 15 + b'-', b'\xc3\xa9', b'9', b'z',
                        b'0'))
     return rng.choice((
@@ -391,6 +394,7 @@ def garbled(rng, line):
         lambda: odd + line[1:],
         lambda: b' '.join(fields + [word]),
         lambda: b' '.join(fields[:at] + fields[at + 1:]),
+        lambda: b' '.join(fields[:1] + [large] + fields[2:]),
         lambda: b' '.join(fields[:1] + [number] + fields[2:]),
         lambda: b' '.join(fields[:1] + [b'0' + field for field in fields[1:2]] + fields[2:]),
         lambda: b' '.join(fields[:2] + [word] + fields[3:]),
@@ -417,8 +421,8 @@ def lengths(w):
 
 
 # With how often each is written.
-KINDS = {mix: 8, conflicts: 8, freezes: 5, scans: 5, read_set: 2, write_set: 3, overlay: 2, history_entries: 2, history_hashes: 1,
-         active_run: 2, run_area: 2, places: 2, handles: 4, malformed: 5, lengths: 1}
+KINDS = {mix: 8, conflicts: 8, freezes: 5, scans: 5, read_set: 2, write_set: 3, overlay: 2, history_entries: 2, history_hashes: 2,
+         active_run: 2, run_area: 2, places: 2, handles: 4, malformed: 5, lengths: 2}
 NAMES = {kind.__name__: kind for kind in KINDS}
 
 
