@@ -64,7 +64,7 @@ fn before_at(s: &[u8], h: Heap, i: usize, j: usize) -> bool
 }
 
 // Of `at`, which has two children, and these the one that comes first. The children are compared with each other only where both come before `at`, so that one
-// of them is handed out next: however long the keys are at which other runs wait, time is spent on those that are handed out.
+// of them moves up: else the long keys at which two runs wait would be compared at each short key that a third one passes.
 fn sink_to_one_of_two(s: &[u8], h: Heap, at: usize) -> usize
     requires { ⌜ (h .len ≤ 17) × (at + at + 2 < h .len) × (all (live (now s)) (cursorsOf h) ≡ true) ⌝ }
     ensures { λ r. ⌜ Next (bef (now (s .entry))) nowhere (h .cursors) (h .len) at r ⌝ }
