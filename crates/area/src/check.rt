@@ -9,14 +9,14 @@ use run::image::Checked;
 use run::tally::Tally;
 
 // The active run: how many bytes its records take, and what is known of its versions; or its part of the state breaks a rule.
-#[derive(Drop)]
+#[derive(Clone, Copy)]
 pub enum Active {
     Run { used: usize, tally: Tally },
     Wrong,
 }
 
 // What is known of the frozen and opening runs: how many there are, whether they have a version, and their latest timestamp, 0 if they have none.
-#[derive(Drop)]
+#[derive(Clone, Copy)]
 pub struct Others {
     pub count: usize,
     pub any: bool,
@@ -24,14 +24,14 @@ pub struct Others {
 }
 
 // The frozen and opening runs; or their part of the state breaks a rule.
-#[derive(Drop)]
+#[derive(Clone, Copy)]
 pub enum Area {
     Runs { others: Others },
     Wrong,
 }
 
 // An image with its length in front: where the next one begins, whether its run has a version, and the latest timestamp; or no good image.
-#[derive(Drop)]
+#[derive(Clone, Copy)]
 pub enum Image {
     Good { next: usize, any: bool, latest: u64 },
     Wrong,

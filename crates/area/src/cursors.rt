@@ -9,7 +9,7 @@ ghost use Rattle.area.specs.Spread.{Sited, Spread};
 use merge::heap::Cursor;
 
 // The cursors of the runs in run order, as many as there are runs.
-#[derive(Drop)]
+#[derive(Clone, Copy)]
 pub struct Runs {
     pub cursors: [Cursor; 17],
     pub count: usize,

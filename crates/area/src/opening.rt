@@ -12,7 +12,7 @@ ghost use Rattle.area.specs.Opening.{open_answer, clock_of, image_in, FitTold, T
 use run::Verdict;
 
 // The opening images are all good, with the largest timestamp among their records, 0 if there are none; or the first that is not, by its place from 1.
-#[derive(Drop)]
+#[derive(Clone, Copy)]
 pub enum OpenCheck {
     Good { clock: u64 },
     Broken { place: usize },

@@ -18,7 +18,7 @@ use settings::Shape;
 // ---- where things lie
 
 // Where the sets of a transaction begin, each with the number of its bytes in front.
-#[derive(Drop)]
+#[derive(Clone, Copy)]
 struct SetStarts {
     reads: usize,
     writes: usize,

@@ -1,6 +1,7 @@
 // The hash of a key: "FNV-1a, 32 bits, from its authors' public description". It takes the place of
 // `farmhash::hash32` of the original. Paper's `hash_of` is the rule, and these functions are proved
 // equal to it.
+#![tactic(auto)]
 ghost use Rattle.std.specs.Prelude.{◌≡◌, ◌*◌, ◌%◌};
 ghost use Rattle.paper.specs.Hash.{fnv_step, hash_of};
 

@@ -1,9 +1,10 @@
 // Runs damaged states past the state check: a small sound state, every change of one of its bytes, every cut, and pseudo-random damage.
 // A line for each group says how many states were checked, and how many of them were found sound.
+#![tactic(auto)]
 use libc::STDOUT_FILENO;
 
 // How many states were checked, and how many of them were sound.
-#[derive(Drop)]
+#[derive(Clone, Copy)]
 struct Count {
     checked: u64,
     sound: u64,

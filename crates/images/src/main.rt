@@ -1,6 +1,7 @@
 // Runs images past the verdict: each fault of numbers 10 and 11 at every place where it can stand, the limits of length,
 // round trips, and damaged copies. Each verdict is compared with one that this program finds in its own, slower way.
 // A line for each group says how many images were told as good, broken (10) and foreign (11), and on how many the two differ.
+#![tactic(auto)]
 mod plain; // plain.rt: the verdict once more, written from the paper and unlike the library
 mod build; // build.rt: images of small versions, of lists of them, and of single records of a given length
 mod trips; // trips.rt: images written, frozen and read back
@@ -9,7 +10,7 @@ use libc::STDOUT_FILENO;
 use run::Verdict;
 
 // How many images were told as what, and on how many the two verdicts differ.
-#[derive(Drop)]
+#[derive(Clone, Copy)]
 pub struct Count {
     pub good: u64,
     pub broken: u64,

@@ -1,4 +1,5 @@
 // Keys with their timestamps, and the versions in bytes that they order.
+#![tactic(auto)]
 ghost use Rattle.std.specs.Prelude.{◌≡◌, true, drop};
 ghost use Rattle.paper.specs.Lists.{is_some};
 ghost use Rattle.paper.specs.Keys.{cmp_version};
@@ -11,7 +12,7 @@ ghost use Rattle.key.specs.Versions.{version_at};
 use raw::Order;
 
 // A key's timestamp. The key's bytes stand beside it, as a slice.
-#[derive(Drop)]
+#[derive(Clone, Copy)]
 pub struct KeyStamp {
     pub time: u64,
 }
@@ -61,7 +62,7 @@ impl KeyStamp {
 }
 
 // Where the parts of a version lie: its key from ks to ke, its value from vs to ve.
-#[derive(Drop)]
+#[derive(Clone, Copy)]
 pub struct Place {
     pub ks: usize,
     pub ke: usize,

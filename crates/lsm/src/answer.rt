@@ -1,7 +1,7 @@
 // Where an answer lies.
 
 // A pair's place: its key from ks to ke, its value from vs to ve.
-#[derive(Drop)]
+#[derive(Clone, Copy)]
 pub struct Span {
     pub ks: usize,
     pub ke: usize,
@@ -10,7 +10,7 @@ pub struct Span {
 }
 
 // A pair, or that there is none.
-#[derive(Drop)]
+#[derive(Clone, Copy)]
 pub enum Answer {
     At(Span),
     End,

@@ -8,7 +8,7 @@ ghost use Rattle.lsm.specs.Edges.{bound_of};
 use raw::Order;
 
 // What a bound does with its key, which stands beside it.
-#[derive(Drop)]
+#[derive(Clone, Copy)]
 pub enum Edge {
     Included,
     Excluded,

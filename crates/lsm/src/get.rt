@@ -17,7 +17,7 @@ use key::{KeyStamp, Place};
 use merge::heap::Cursor;
 
 // The best version so far: where its parts lie, or that there is none.
-#[derive(Drop)]
+#[derive(Clone, Copy)]
 pub enum Best {
     Nothing,
     At(Place),

@@ -1,4 +1,5 @@
 // What a reader sees of runs and own writes that lie packed in one lent slice. Answers are places in that slice, so that the caller copies once.
+#![tactic(auto)]
 pub mod answer;
 pub mod bounds;
 pub mod get;

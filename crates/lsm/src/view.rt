@@ -2,7 +2,7 @@
 use merge::heap::Cursor;
 
 // The runs' cursors in run order, its own pairs from `own` to `stop`, and its read number.
-#[derive(Drop)]
+#[derive(Clone, Copy)]
 pub struct View {
     pub cursors: [Cursor; 17],
     pub runs: usize,

@@ -13,7 +13,7 @@ use key::Place;
 use merge::heap::Heap;
 
 // Why a walk stopped: at a visible version; at the end; for want of depth, looking for a visible version, or leaving a key.
-#[derive(Drop)]
+#[derive(Clone, Copy)]
 pub enum Mark {
     Found,
     Ended,
@@ -22,7 +22,7 @@ pub enum Mark {
 }
 
 // Where a walk stopped: the key found or to be left lies from ks to ke, the value found from vs to ve.
-#[derive(Drop)]
+#[derive(Clone, Copy)]
 pub struct Walk {
     pub heap: Heap,
     pub mark: Mark,

@@ -8,14 +8,14 @@ ghost use Rattle.merge.specs.Unread.{cursors_of};
 use raw::Order;
 
 // What is left of a run: its records from `at` to `end`. `run` is its place in run order.
-#[derive(Drop)]
+#[derive(Clone, Copy)]
 pub struct Cursor {
     pub at: usize,
     pub end: usize,
     pub run: usize,
 }
 
-#[derive(Drop)]
+#[derive(Clone, Copy)]
 pub struct Heap {
     pub cursors: [Cursor; 17],
     pub len: usize,

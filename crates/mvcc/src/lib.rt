@@ -1,5 +1,6 @@
 // The history of commits in a lent buffer: its check, the opponent of a commit, and how an entry comes and others leave.
 // An entry is its number in 8 bytes, the size of its hashes in 8 bytes, and its hashes, 4 bytes each.
+#![tactic(auto)]
 ghost use Rattle.std.specs.Prelude.{◌≡◌, true, [], ◌∷◌, ◌++◌, length};
 ghost use Prim.Native.Nat.{◌+◌, ◌*◌, ◌-◌, ◌≤◌, compare};
 ghost use Rattle.paper.specs.Lists.{is_some, rises};
@@ -11,7 +12,7 @@ ghost use Rattle.sets.specs.Sets.{hashes_in, shared_hash};
 ghost use Rattle.mvcc.specs.Histories.{history_read, history_in, is_history, history_bytes, limits, sound_read, Told, commit_read, may_follow, allowed, opposition_of, opponent_of, CutAt};
 
 // An entry of the history: its number, where its hashes start, how many there are, and where the next entry starts; or bytes that are no entry.
-#[derive(Drop)]
+#[derive(Clone, Copy)]
 pub enum Entry {
     Whole {
         number: u64,
@@ -23,7 +24,7 @@ pub enum Entry {
 }
 
 // What is left for the entries from some place on: whether they are the first, the number before them if not, and how many entries and hashes there may be.
-#[derive(Drop)]
+#[derive(Clone, Copy)]
 pub struct Left {
     pub first: bool,
     pub last: u64,
@@ -32,14 +33,14 @@ pub struct Left {
 }
 
 // Who is in the way of a commit: the number of another, and the smallest hash that they share.
-#[derive(Drop)]
+#[derive(Clone, Copy)]
 pub enum Opposed {
     By { number: u64, hash: u64 },
     Nobody,
 }
 
 // How many entries a history has, and how many hashes they have together.
-#[derive(Drop)]
+#[derive(Clone, Copy)]
 pub struct Tally {
     pub entries: usize,
     pub hashes: usize,

@@ -1,5 +1,6 @@
 // The own writes of a transaction, packed in a part of a lent buffer: key length 2 bytes, key, value length 2 bytes,
 // value; the keys rise strictly. It takes the place of the original's `SkipMap`.
+#![tactic(auto)]
 ghost use Rattle.std.specs.Prelude.{◌≡◌, true, ◌++◌, ◌+◌, ◌-◌, ◌≤◌, ◌<◌, length};
 ghost use Rattle.paper.specs.Lists.{is_some, insert};
 ghost use Rattle.paper.specs.Keys.{cmp_pair};
@@ -14,35 +15,35 @@ use raw::Order;
 
 // Where the own write of a key is: its entry starts at `start`, its value at `vs`, and both end at `end`; or where it
 // would be.
-#[derive(Drop)]
+#[derive(Clone, Copy)]
 pub enum Found {
     At { start: usize, vs: usize, end: usize },
     Gap { at: usize },
 }
 
 // The value of a key's own write, if there is one: it lies from `start` to `end`.
-#[derive(Drop)]
+#[derive(Clone, Copy)]
 pub enum Answer {
     Value { start: usize, end: usize },
     Nothing,
 }
 
 // Where an entry's key and value end.
-#[derive(Drop)]
+#[derive(Clone, Copy)]
 pub struct Entry {
     pub ke: usize,
     pub ve: usize,
 }
 
 // A field, up to `stop`; or there is less than one.
-#[derive(Drop)]
+#[derive(Clone, Copy)]
 pub enum Field {
     Until { stop: usize },
     Short,
 }
 
 // An entry, whose key ends at `ke` and value at `ve`; or there is less than one.
-#[derive(Drop)]
+#[derive(Clone, Copy)]
 pub enum Read {
     Whole { ke: usize, ve: usize },
     Cut,

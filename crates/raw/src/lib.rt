@@ -1,4 +1,5 @@
 // Bytes of a lent buffer: big-endian numbers, copies and moves, and the order of byte strings.
+#![tactic(auto)]
 ghost use Rattle.std.specs.Prelude.{◌≡◌, length, get_or};
 ghost use Prim.Native.Nat.{◌+◌, ◌≤◌, ◌<◌, compare};
 ghost use Rattle.paper.specs.Keys.{cmp_key};
@@ -7,7 +8,7 @@ ghost use Rattle.raw.specs.Bytes.{part, over};
 ghost use Rattle.raw.specs.Orders.{ordering};
 
 // How two things stand to each other.
-#[derive(Drop)]
+#[derive(Clone, Copy)]
 pub enum Order {
     Less,
     Equal,

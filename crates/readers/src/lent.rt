@@ -6,13 +6,13 @@ ghost use Rattle.watermark.specs.Table.{rows_of, added_says, removed_says, small
 use watermark::Row;
 use watermark::reply::{Added, Removed, Smallest, Timestamps};
 
-#[derive(Drop)]
+#[derive(Clone, Copy)]
 pub struct AddedIn {
     pub rows: [Row; 4],
     pub reply: Added,
 }
 
-#[derive(Drop)]
+#[derive(Clone, Copy)]
 pub struct RemovedFrom {
     pub rows: [Row; 4],
     pub reply: Removed,

@@ -1,5 +1,6 @@
 // Runs P13 and each refusal of the reader table on both of the library's tables, and writes a line for each call: the table, the call, the number that it
 // returns, what it tells, and for a call that writes how many rows are in use and what all four hold.
+#![tactic(auto)]
 mod lent;
 mod told;
 
@@ -10,14 +11,14 @@ use watermark::Row;
 use watermark::reply::{Added, Mark, Removed, Smallest, Timestamps};
 
 // Which of the two tables is called.
-#[derive(Drop)]
+#[derive(Clone, Copy)]
 enum Which {
     Two,
     Rows,
 }
 
 // Four rows, and how many are in use.
-#[derive(Drop)]
+#[derive(Clone, Copy)]
 struct Table {
     rows: [Row; 4],
     used: usize,

@@ -1,6 +1,7 @@
 // Replays a script of calls from standard input over an empty serializable store, and prints the answers. Everything but reading and writing is
 // `script::replay`; one byte more than a script may have is read, so that a longer one is seen to be so. The out buffer is as long as any script's output can
 // be, which crate `outputs` proves.
+#![tactic(auto)]
 use libc::{STDIN_FILENO, STDOUT_FILENO};
 
 fn run(input: &mut [u8], out: &mut [u8]) {

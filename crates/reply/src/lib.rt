@@ -1,10 +1,11 @@
 // What each call of the host answers, as an enum by value. A refusal names its cause; `number` gives document 01's number for it.
+#![tactic(auto)]
 ghost use Rattle.std.specs.Prelude.{◌≡◌};
 ghost use Rattle.paper.specs.Refusals.{room_number, refusal_number};
 ghost use Rattle.reply.specs.Told.{room_of, refusal_of, told_number, told_settled, told_begun, told_got, told_scanned, told_committed};
 
 // 'No room means exactly': each kind of room.
-#[derive(Drop)]
+#[derive(Clone, Copy)]
 pub enum Room {
     Places,
     Overlay,
@@ -20,7 +21,7 @@ pub enum Room {
 
 // Why a call is refused. A conflict names its opponent: the commit's number, and the smallest hash shared with it. An opening run is told by its place,
 // from 1.
-#[derive(Drop)]
+#[derive(Clone, Copy)]
 pub enum Refusal {
     EmptyKey,
     TooLong,
@@ -36,21 +37,21 @@ pub enum Refusal {
 }
 
 // An opening, a put, a delete, an end, a freeze.
-#[derive(Drop)]
+#[derive(Clone, Copy)]
 pub enum Settled {
     Done,
     Refused { why: Refusal },
 }
 
 // A begin: the handle, and the number at which it reads.
-#[derive(Drop)]
+#[derive(Clone, Copy)]
 pub enum Begun {
     Txn { handle: u64, read: u64 },
     Refused { why: Refusal },
 }
 
 // A get: how many bytes the value has that now stands in the out buffer, or that the key is absent.
-#[derive(Drop)]
+#[derive(Clone, Copy)]
 pub enum Got {
     Value { length: usize },
     Absent,
@@ -58,7 +59,7 @@ pub enum Got {
 }
 
 // A scan's answer: how many bytes key and value have that now stand in the out buffers, or the end.
-#[derive(Drop)]
+#[derive(Clone, Copy)]
 pub enum Scanned {
     Pair { key: usize, value: usize },
     End,
@@ -66,7 +67,7 @@ pub enum Scanned {
 }
 
 // A commit: the number under which its writes are stored, or that it had none.
-#[derive(Drop)]
+#[derive(Clone, Copy)]
 pub enum Committed {
     Number { number: u64 },
     NoWrites,

@@ -12,7 +12,7 @@ use key::{KeyStamp, Place};
 use raw::Order;
 
 // The bytes are the records of a run, of which none has an empty key; or they are not.
-#[derive(Drop)]
+#[derive(Clone, Copy)]
 pub enum Checked {
     Run { tally: Tally },
     Wrong,

@@ -1,4 +1,5 @@
 // Runs as bytes: one record at an offset, the verdict on a whole image, packed records counted, sought and written.
+#![tactic(auto)]
 pub mod record; // record.rt: one record at an offset, checked, and the order of versions at their places
 pub mod tally; // tally.rt: how many records there are, and their earliest and latest timestamps
 pub mod image; // image.rt: the check of packed records, and the verdict on an image
@@ -7,7 +8,7 @@ pub mod reader; // reader.rt: a run reader that holds the run's bytes and its pl
 pub mod seek; // seek.rt: the first record at or after a version
 
 // What an image is told as: good, with the largest timestamp among its records; 10; 11.
-#[derive(Drop)]
+#[derive(Clone, Copy)]
 pub enum Verdict {
     Good { latest: u64 },
     Broken,

@@ -6,14 +6,14 @@ ghost use Rattle.run.specs.Stepping.{step_at, after_at};
 use crate::record::Record;
 use key::Place;
 
-#[derive(Drop)]
+#[derive(Clone, Copy)]
 pub struct Reader<'a> {
     pub src: &'a [u8],
     pub at: usize,
 }
 
 // What stands at a place: a version; nothing, because the bytes end there; or bytes that are no whole record.
-#[derive(Drop)]
+#[derive(Clone, Copy)]
 pub enum Step {
     Version { place: Place },
     End,

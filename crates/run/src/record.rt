@@ -10,7 +10,7 @@ use key::{KeyStamp, Place};
 use raw::Order;
 
 // A whole record, by the place of its parts; or none, because the bytes end before it does.
-#[derive(Drop)]
+#[derive(Clone, Copy)]
 pub enum Record {
     Whole { place: Place },
     Cut,

@@ -6,7 +6,7 @@ ghost use Rattle.key.specs.Versions.{versions, packed};
 ghost use Rattle.run.specs.Tallies.{tally_of, counted};
 
 // What is known of the records so far.
-#[derive(Drop)]
+#[derive(Clone, Copy)]
 pub struct Tally {
     pub count: usize,
     pub earliest: u64,

@@ -1,4 +1,5 @@
 // What every call on a sound state begins with: where its parts lie, and the transaction of a handle.
+#![tactic(auto)]
 ghost use Rattle.std.specs.Prelude.{◌≡◌, true};
 ghost use Rattle.layout.specs.Layout.{store_in, sound_state};
 ghost use Rattle.settings.specs.Shapes.{shape_of};
@@ -16,7 +17,7 @@ pub fn shape_in(state: &[u8]) -> Shape
 }
 
 // The transaction of a handle: where its place begins, and the number at which it reads. 3 is given where there is none, 4 where it is closed.
-#[derive(Drop)]
+#[derive(Clone, Copy)]
 pub enum Seat {
     Open { place: usize, read: u64 },
     Closed { place: usize, read: u64 },

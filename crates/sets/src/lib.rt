@@ -1,4 +1,5 @@
 // Sets of hashes in a lent buffer: 4 bytes a hash, big-endian, strictly rising, so that none stands in a set twice.
+#![tactic(auto)]
 ghost use Rattle.std.specs.Prelude.{◌≡◌, true, length};
 ghost use Prim.Native.Nat.{◌+◌, ◌*◌, ◌≤◌, ◌<◌, compare};
 ghost use Rattle.paper.specs.Lists.{rises, insert, keep, first, among};
@@ -7,14 +8,14 @@ ghost use Rattle.layout.specs.Layout.{hashes};
 ghost use Rattle.sets.specs.Sets.{hashes_in, hash_at, found_in, shared_hash};
 
 // Where a hash stands in a set, or the place before which it would stand.
-#[derive(Drop)]
+#[derive(Clone, Copy)]
 pub enum Found {
     At { i: usize },
     Gap { i: usize },
 }
 
 // The smallest hash that two sets share, if they share one.
-#[derive(Drop)]
+#[derive(Clone, Copy)]
 pub enum Shared {
     Hash { hash: u64 },
     Nothing,

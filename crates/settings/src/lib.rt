@@ -1,4 +1,5 @@
 // The opening settings: their ranges, the length of a state, where its parts lie, and the settings in its first 72 bytes.
+#![tactic(auto)]
 ghost use Rattle.std.specs.Prelude.{◌≡◌, true, ◌≤◌, ◌<◌, length};
 ghost use Rattle.std.proofs.Math.Option.{some};
 ghost use Rattle.paper.specs.Lists.{is_some};
@@ -11,7 +12,7 @@ ghost use Rattle.settings.specs.Shapes.{shape_of};
 
 // What a host sets at opening: the mode, how many transactions there may be and the room of each (overlay bytes, read hashes, write hashes),
 // the history's entries and hashes, the bytes of the active run, and those of the run area.
-#[derive(Drop)]
+#[derive(Clone, Copy)]
 pub struct Settings {
     pub serializable: bool,
     pub transactions: u64,
@@ -27,7 +28,7 @@ pub struct Settings {
 // Where the parts of a state lie, made once for each call. The reader rows begin at 88; each part ends where the next begins: the rows at `history`,
 // the history at `active`, the active run at `area`, the run area at `places`. Then come `count` places of `stride` bytes, and the state ends with them.
 // The other numbers say how much there may be: overlay bytes, read and write hashes of a transaction, entries and hashes of the history.
-#[derive(Drop)]
+#[derive(Clone, Copy)]
 pub struct Shape {
     pub serializable: bool,
     pub count: usize,
@@ -44,7 +45,7 @@ pub struct Shape {
 }
 
 // What stands in front of a buffer: settings in their ranges for which it is long enough, or anything else.
-#[derive(Drop)]
+#[derive(Clone, Copy)]
 pub enum Read {
     Good { settings: Settings },
     Bad,

@@ -1,4 +1,5 @@
 // The store's reader table as it lies in the lent state, and the transactions' places by their first bytes: handle and read number.
+#![tactic(auto)]
 ghost use Rattle.std.specs.Prelude.{◌≡◌, true, ◌∷◌, ◌++◌, suc, ◌+◌, ◌*◌, ◌≤◌, ◌<◌, length, take, drop};
 ghost use Rattle.paper.specs.Lists.{is_some, among};
 ghost use Rattle.paper.specs.Readers.{row, add_reader, remove_reader, watermark};
@@ -25,7 +26,7 @@ fn rows_before(region: &[u8], n: usize, t: u64) -> usize
 }
 
 // A timestamp's row, at place k of n, with its count; or no row, and the place where it would be.
-#[derive(Drop)]
+#[derive(Clone, Copy)]
 pub enum Spot {
     Here { k: usize, n: usize, count: u64 },
     Gap { k: usize, n: usize },
@@ -51,7 +52,7 @@ pub fn spot_of(region: &[u8], t: u64) -> Spot
 }
 
 // Whether a reader may be added: there is a row for it or room for one, and its count is below the most.
-#[derive(Drop)]
+#[derive(Clone, Copy)]
 pub enum RowCheck {
     Fine,
     Full,
@@ -162,7 +163,7 @@ pub fn rows_read(region: &[u8]) -> bool
 }
 
 // The first place with a tag: a handle, or 0 for a free place.
-#[derive(Drop)]
+#[derive(Clone, Copy)]
 pub enum Found {
     At { index: usize, start: usize },
     Nothing,

@@ -1,5 +1,6 @@
 // A transaction's place in the lent state: its handle, its read number, whether it is open, its own writes and its two
 // sets. It takes the place of the original's `Transaction`.
+#![tactic(auto)]
 ghost use Rattle.std.specs.Prelude.{◌≡◌, true, false, [], length};
 ghost use Rattle.std.proofs.Math.Option.{none, some};
 ghost use Prim.Native.Nat.{◌+◌, ◌*◌, ◌≤◌, ◌<◌, compare};
@@ -18,7 +19,7 @@ ghost use Rattle.txn.specs.Place.{settings_of, place_of, stride_of, reads_at, wr
 pub mod check; // check.rt: the check of a place
 
 // How much a transaction may hold: bytes of its own writes, and hashes of its read set and of its write set.
-#[derive(Drop)]
+#[derive(Clone, Copy)]
 pub struct Rooms {
     pub own: usize,
     pub reads: usize,

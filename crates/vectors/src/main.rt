@@ -1,5 +1,6 @@
 // Runs test vectors that the authors of FNV published for FNV-1a of 32 bits. Each line has the vector's
 // place in this program, what `hash::hash32` answers, and whether that is the published value.
+#![tactic(auto)]
 use libc::STDOUT_FILENO;
 
 // Hashes one key and compares the answer with the published one.

@@ -6,7 +6,7 @@ ghost use Rattle.watermark.specs.Pass.{unsound_scan, scanned, within_of, passed_
 use super::reply::{Added, Mark, Removed, Smallest, Timestamps};
 
 // A timestamp and the number of its readers.
-#[derive(Drop)]
+#[derive(Clone, Copy)]
 pub struct Row {
     pub time: u64,
     pub count: u64,
@@ -14,7 +14,7 @@ pub struct Row {
 
 // What is known of the rows passed so far: that they are sound, whether there are any, the last and the first timestamp, how many stand below `time`
 // and how many up to it, and the readers at `time`.
-#[derive(Drop)]
+#[derive(Clone, Copy)]
 pub struct Scan {
     pub time: u64,
     pub sound: bool,
@@ -27,7 +27,7 @@ pub struct Scan {
 }
 
 // `row` is put in at `from`, and what stood from there to before `to` goes one further, the last of it away.
-#[derive(Drop)]
+#[derive(Clone, Copy)]
 pub struct Put {
     pub from: usize,
     pub to: usize,
@@ -35,20 +35,20 @@ pub struct Put {
 }
 
 // What stands from `next` to before `to` moves down to `from`.
-#[derive(Drop)]
+#[derive(Clone, Copy)]
 pub struct Cut {
     pub from: usize,
     pub next: usize,
     pub to: usize,
 }
 
-#[derive(Drop)]
+#[derive(Clone, Copy)]
 pub struct Adding {
     pub reply: Added,
     pub put: Put,
 }
 
-#[derive(Drop)]
+#[derive(Clone, Copy)]
 pub struct Removing {
     pub reply: Removed,
     pub put: Put,

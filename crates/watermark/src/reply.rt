@@ -1,5 +1,5 @@
 // What the calls of the reader table answer. `specs/Table.antt` gives each case what it says in the paper, and so its number.
-#[derive(Drop)]
+#[derive(Clone, Copy)]
 pub enum Added {
     // 0: there are `used` rows now.
     Done { used: usize },
@@ -11,7 +11,7 @@ pub enum Added {
     CountFull,
 }
 
-#[derive(Drop)]
+#[derive(Clone, Copy)]
 pub enum Removed {
     // 0: there are `used` rows now.
     Done { used: usize },
@@ -21,7 +21,7 @@ pub enum Removed {
     Missing,
 }
 
-#[derive(Drop)]
+#[derive(Clone, Copy)]
 pub enum Smallest {
     At { time: u64 },
     Nobody,
@@ -29,14 +29,14 @@ pub enum Smallest {
     Unsound,
 }
 
-#[derive(Drop)]
+#[derive(Clone, Copy)]
 pub enum Timestamps {
     Number { count: usize },
     // 9
     Unsound,
 }
 
-#[derive(Drop)]
+#[derive(Clone, Copy)]
 pub enum Mark {
     At { time: u64 },
     // 9

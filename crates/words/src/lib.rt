@@ -1,4 +1,5 @@
 // A line of a script, understood: which command it is, and where its key and value stand.
+#![tactic(auto)]
 ghost use Rattle.std.specs.Prelude.{◌≡◌, [], ◌∷◌, suc, ◌+◌, ◌-◌, ◌≤◌, ◌<◌, length, drop};
 ghost use Rattle.std.proofs.Math.Option.{some};
 ghost use Rattle.paper.specs.Replay.{pieces, is_letter_or_digit, no_leading_zero, is_word, is, line_call};
@@ -8,7 +9,7 @@ ghost use Rattle.words.specs.Commands.{call_of, Within, second, Read};
 
 // '`b`; `g H key`; `p H key value`; `d H key`; `f H key`, the first pair above that key, `-` for unbounded; `c H`; `e H`; `z` freezes'. Keys and values are
 // told by the index in the line at which they start.
-#[derive(Drop)]
+#[derive(Clone, Copy)]
 pub enum Command {
     Begin,
     Get {
@@ -60,7 +61,7 @@ pub fn piece_end(s: &[u8], separator: u8, at: usize) -> usize
 // ---- a handle
 
 // What a handle's field is.
-#[derive(Drop)]
+#[derive(Clone, Copy)]
 enum Field {
     Number { n: u64 },
     Other,

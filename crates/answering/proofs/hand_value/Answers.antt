@@ -1,0 +1,13 @@
+-- The out buffer is looked at before anything is written.
+use Rattle.answering.proofs.Resting.{value-short, value_out_lem}
+use native.Mathlib.Omega.{arith}
+use borrow.Author.Rules.{rules}
+use Rattle.answering.proofs.hand_value.Goals as goal
+
+pub returns-then-out-length : goal.returns-then-out-length
+returns-then-out-length c =
+    value-short c.args.shape c.args.state.now c.args.place c.args.hash c.args.out.now c.requires.2 c.args.p c.requires.3 (omega (arith, c.if-out-length.true))
+
+pub returns : goal.returns
+returns c =
+    value_out_lem c.args.shape c.args.state.now c.args.place c.args.hash c.args.out.now c.requires.2 c.args.p c.requires.3 (omega (arith, c.if-out-length.false)) c.note_read.new.0 c.copy_out.new.0 c.note_read.ensures c.copy_out.ensures

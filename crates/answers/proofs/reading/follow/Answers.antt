@@ -1,0 +1,17 @@
+-- `answers::reading::follow` meets its contract: an answer's place lies in the bytes, and so does the next one's.
+use Rattle.answers.proofs.Readings.{answer-in}
+use native.Mathlib.Omega.{arith}
+use borrow.Author.Rules.{rules}
+use Rattle.answers.proofs.reading.follow.Goals as goal
+
+pub write_pair-requires : goal.write_pair-requires
+write_pair-requires c = answer-in _ _ _ c.in-At.is c.requires.1
+
+pub slice_bounds-scan-count : goal.slice_bounds-scan-count
+slice_bounds-scan-count c = (answer-in _ _ _ c.in-At.is c.requires.1).key
+
+pub slice_bounds-scan-start : goal.slice_bounds-scan-start
+slice_bounds-scan-start c = let k = answer-in _ _ _ c.in-At.is c.requires.1 in omega (arith, k.key, k.key_in)
+
+pub slice_bounds-scan-end : goal.slice_bounds-scan-end
+slice_bounds-scan-end c = let k = answer-in _ _ _ c.in-At.is c.requires.1 in omega (arith, k.key, k.key_in)

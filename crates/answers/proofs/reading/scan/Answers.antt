@@ -1,0 +1,18 @@
+-- `answers::reading::scan` is safe and ends: each answer's place lies in the bytes.
+use Rattle.lsm.specs.Answers.{InAnswer}
+use Prim.Native.Nat.{◌-◌}
+use native.Mathlib.Omega.{arith}
+use borrow.Author.Rules.{rules}
+use Rattle.answers.proofs.reading.scan.Goals as goal
+
+pub scan-a-requires : goal.scan-a-requires
+scan-a-requires c = c.requires
+
+pub loop-i-init : goal.loop-i-init
+loop-i-init c = c.scan-a.ensures.inside
+
+pub follow-a-requires : goal.follow-a-requires
+follow-a-requires c = (c.requires, c.loop-i.invariant)
+
+pub loop-i-preserved : goal.loop-i-preserved
+loop-i-preserved c = c.follow-a.ensures

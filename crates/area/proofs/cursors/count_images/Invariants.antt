@@ -1,0 +1,12 @@
+use Rattle.area.proofs.Counting.{Counting, Counted, count-start, count-done, count-there, count_next}
+use Rattle.raw.proofs.Octets.{octets-of}
+use native.Mathlib.Omega.{arith}
+use Prim.Native.Nat.{◌+◌, ◌-◌, ◌≤◌}
+use lib.ListN.{length}
+use Rattle.area.proofs.cursors.count_images.Given as goal
+
+abbrev pub invariant-loop-i : goal.invariant-loop-i
+invariant-loop-i l = Counting l.state l.at l.end l.i l.count
+
+abbrev pub decreases-loop-i : goal.decreases-loop-i
+decreases-loop-i l = l.end - l.i

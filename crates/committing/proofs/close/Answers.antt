@@ -1,0 +1,6 @@
+-- The mark is written.
+use borrow.Author.Rules.{rules}
+use Rattle.committing.proofs.close.Goals as goal
+
+pub returns : goal.returns
+returns c = c.put_be64.ensures

@@ -1,0 +1,8 @@
+-- What the call told is told by its number.
+use Rattle.paper.specs.Calls.{Call}
+use Rattle.host.proofs.Calling.{number-on}
+use borrow.Author.Rules.{rules}
+use Rattle.host.proofs.ngalovuki_freeze.Goals as goal
+
+pub returns : goal.returns
+returns c = number-on Call.freeze c.args.state.now _ _ _ c.freeze-told.ensures c.settled_number.ensures

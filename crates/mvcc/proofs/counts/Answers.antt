@@ -1,0 +1,33 @@
+-- The invariant: what is counted, and what the entries from this place on have, is what the history has.
+use Rattle.mvcc.proofs.Pruning.{Counting, count-start, count-end, count-on}
+use Rattle.mvcc.proofs.Entries.{whole, walk-there}
+use Rattle.raw.proofs.Octets.{octets-of}
+use Prim.Native.Nat.{◌-◌}
+use native.Mathlib.Omega.{arith}
+use borrow.Author.Rules.{rules}
+use Rattle.mvcc.proofs.counts.Goals as goal
+
+pub loop-from-init : goal.loop-from-init
+loop-from-init c =
+    count-start c.args.s.now c.args.at c.args.end (octets-of c.args.s.now (λ i. omega (arith, c.type_inv.s i))) c.requires.0 c.requires.1 c.requires.2
+
+pub entry_at-requires : goal.entry_at-requires
+entry_at-requires c = omega (arith, c.loop-from.invariant.walk.from, c.loop-from.invariant.walk.to)
+
+pub returns-in-Cut : goal.returns-in-Cut
+returns-in-Cut c = absurd (walk-there c.loop-from-test.true c.loop-from.invariant.walk c.entry_at.ensures c.in-Cut.is)
+
+pub overflow_add-entries : goal.overflow_add-entries
+overflow_add-entries c = let w = whole c.entry_at.ensures c.in-Whole.is in omega (arith, c.loop-from.invariant.size)
+
+pub overflow_add-hashes : goal.overflow_add-hashes
+overflow_add-hashes c = let w = whole c.entry_at.ensures c.in-Whole.is in omega (arith, c.loop-from.invariant.size)
+
+pub loop-from-smaller : goal.loop-from-smaller
+loop-from-smaller c = let w = whole c.entry_at.ensures c.in-Whole.is in omega arith
+
+pub loop-from-preserved : goal.loop-from-preserved
+loop-from-preserved c = count-on c.loop-from.invariant c.loop-from-test.true (whole c.entry_at.ensures c.in-Whole.is)
+
+pub returns : goal.returns
+returns c = count-end c.loop-from.invariant c.loop-from-test.false

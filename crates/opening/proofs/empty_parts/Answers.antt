@@ -1,0 +1,35 @@
+-- The numbers stand where the shape puts them.
+use Rattle.settings.specs.Opening.{settings_of}
+use Rattle.settings.proofs.Shapes.{Shaped, shaped}
+use Rattle.opening.proofs.Emptying.{emptied-written}
+use borrow.Author.Rules.{rules}
+use Rattle.opening.proofs.empty_parts.Goals as goal
+
+pub put_be64-requires : goal.put_be64-requires
+put_be64-requires c =
+    let here : Shaped (settings_of c.args.st) c.shape_of-shape.result = shaped (settings_of c.args.st) c.requires.0 c.shape_of-shape.result c.shape_of-shape.ensures in
+    let z = here in search rules
+
+pub put_be64-requires-2 : goal.put_be64-requires-2
+put_be64-requires-2 c =
+    let here : Shaped (settings_of c.args.st) c.shape_of-shape.result = shaped (settings_of c.args.st) c.requires.0 c.shape_of-shape.result c.shape_of-shape.ensures in
+    let z = here in search rules
+
+pub put_be64-requires-3 : goal.put_be64-requires-3
+put_be64-requires-3 c =
+    let here : Shaped (settings_of c.args.st) c.shape_of-shape.result = shaped (settings_of c.args.st) c.requires.0 c.shape_of-shape.result c.shape_of-shape.ensures in
+    let z = here in search rules
+
+pub put_be64-requires-4 : goal.put_be64-requires-4
+put_be64-requires-4 c =
+    let here : Shaped (settings_of c.args.st) c.shape_of-shape.result = shaped (settings_of c.args.st) c.requires.0 c.shape_of-shape.result c.shape_of-shape.ensures in
+    let z = here in search rules
+
+pub put_be64-requires-5 : goal.put_be64-requires-5
+put_be64-requires-5 c =
+    let here : Shaped (settings_of c.args.st) c.shape_of-shape.result = shaped (settings_of c.args.st) c.requires.0 c.shape_of-shape.result c.shape_of-shape.ensures in
+    let z = here in search rules
+
+pub returns : goal.returns
+returns c =
+    emptied-written (settings_of c.args.st) c.requires.0 c.shape_of-shape.result c.shape_of-shape.ensures c.args.clock c.args.state.now _ _ _ _ _ c.put_be64.ensures c.put_be64-2.ensures c.put_be64-3.ensures c.put_be64-4.ensures c.put_be64-5.ensures

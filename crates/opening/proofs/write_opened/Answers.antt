@@ -1,0 +1,31 @@
+-- Every part is written once, and what was checked leaves room for each.
+use native.Mathlib.Omega.{arith}
+use Rattle.raw.proofs.Octets.{octets-of}
+use Rattle.settings.specs.Opening.{settings_of}
+use Rattle.settings.proofs.Shapes.{shaped}
+use Rattle.opening.proofs.Writing.{passed-long, settings-inside, images-inside, opened-written}
+use borrow.Author.Rules.{rules}
+use Rattle.opening.proofs.write_opened.Goals as goal
+
+pub shape_of-shape-requires : goal.shape_of-shape-requires
+shape_of-shape-requires c = c.requires.ranges
+
+pub settings_write-requires : goal.settings_write-requires
+settings_write-requires c = settings-inside (settings_of c.args.st) _ _ _ _ c.requires
+
+pub empty_parts-requires : goal.empty_parts-requires
+empty_parts-requires c = (c.requires.ranges, let z = passed-long (settings_of c.args.st) _ _ _ _ c.requires in search rules)
+
+pub put_images-requires : goal.put_images-requires
+put_images-requires c =
+    let w = shaped (settings_of c.args.st) c.requires.ranges c.shape_of-shape.result c.shape_of-shape.ensures in
+    let z = images-inside (settings_of c.args.st) _ _ _ _ c.requires in
+    (c.requires.good, omega (arith, z, w.area))
+
+pub free_places-requires : goal.free_places-requires
+free_places-requires c = (c.requires.ranges, let z = passed-long (settings_of c.args.st) _ _ _ _ c.requires in search rules)
+
+pub returns : goal.returns
+returns c =
+    let w = shaped (settings_of c.args.st) c.requires.ranges c.shape_of-shape.result c.shape_of-shape.ensures in
+    opened-written (settings_of c.args.st) c.args.images.now c.args.lengths.now c.args.clock c.args.state.now (octets-of c.args.images.now (λ i. omega (arith, c.type_inv.images i))) c.requires _ _ _ _ c.shape_of-shape.result.area w.area c.settings_write.ensures c.empty_parts.ensures c.put_images.ensures c.free_places.ensures

@@ -1,0 +1,8 @@
+use Rattle.printing.proofs.Showing.{shown-then}
+use mathlib.Core.List.{[], ◌∷◌}
+use borrow.Author.Rules.{rules}
+use Rattle.printing.proofs.word.Goals as goal
+
+pub returns : goal.returns
+returns c =
+    shown-then c.args.out.now c.args.at (32 ∷ []) c.args.x.now _ _ _ _ c.text-next.ensures c.text.ensures

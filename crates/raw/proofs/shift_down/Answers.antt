@@ -1,0 +1,22 @@
+use lib.ListN.{length-set}
+use Rattle.raw.proofs.Moves.{down_turn}
+use Rattle.raw.proofs.Over.{over_none}
+use Rattle.raw.specs.Bytes.{over, part}
+use borrow.Author.Rules.{rules}
+use native.Mathlib.Omega.{arith}
+use mathlib.Core.Path.{◌≡◌, refl, ap, ◌∙◌}
+use Prim.Native.Nat.{ℕ, ◌-◌, ◌≤◌}
+use lib.ListN.{length}
+use Rattle.raw.proofs.shift_down.Goals as goal
+
+pub loop-i-init : goal.loop-i-init
+loop-i-init c = (omega arith, refl, over_none _ _)
+
+pub loop-i-preserved : goal.loop-i-preserved
+loop-i-preserved c =
+    (omega arith, simp length-set c.loop-i.invariant.1, down_turn c.args.s.now c.loop-i.s c.args.from c.args.to c.args.n c.loop-i.i c.requires.0 c.requires.1 c.loop-i-test.true c.loop-i.invariant.2)
+
+pub returns : goal.returns
+returns c =
+    let e : c.loop-i.i ≡ c.args.n = omega arith in
+    c.loop-i.invariant.2 ∙ ap (λ (j : ℕ). over c.args.s.now c.args.to (part c.args.s.now c.args.from j)) e

@@ -1,0 +1,10 @@
+-- The call, and its answer.
+use borrow.Author.Rules.{rules}
+use Rattle.paper.specs.Calls.{Call}
+use Rattle.reply.specs.Told.{told_settled}
+use Rattle.script.proofs.Answers.{answer-plain, settled_plain}
+use Rattle.script.proofs.freeze.Goals as goal
+
+pub returns : goal.returns
+returns c =
+    answer-plain Call.freeze c.args.state.now c.freeze-reply.new.0 (told_settled c.freeze-reply.result) c.freeze-reply.ensures (settled_plain c.freeze-reply.result) c.args.out.now c.args.at c.settled.ensures

@@ -1,0 +1,10 @@
+-- An opening without runs, over a buffer that is long enough.
+use borrow.Author.Rules.{rules}
+use Rattle.paper.specs.Replay.{replay_settings}
+use Rattle.reply.specs.Told.{told_settled}
+use Rattle.script.proofs.Opening.{opened_in}
+use Rattle.script.proofs.open.Goals as goal
+
+pub returns : goal.returns
+unfolding replay_settings
+returns c = opened_in c.args.state.now c.requires (told_settled c.open.result) c.open.new.0 c.open.ensures

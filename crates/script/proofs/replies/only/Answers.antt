@@ -1,0 +1,8 @@
+-- The number, and the LF behind it.
+use borrow.Author.Rules.{rules}
+use Rattle.paper.specs.Replay.{decimal_of}
+use Rattle.script.proofs.Showing.{one_field}
+use Rattle.script.proofs.replies.only.Goals as goal
+
+pub returns : goal.returns
+returns c = one_field c.args.out.now c.args.at (decimal_of c.args.number) c.number-end.ensures c.text.ensures

@@ -1,0 +1,11 @@
+-- The invariant: the hashes rise where those from place i on rise from the last one passed.
+use Rattle.sets.proofs.Risings.{Pass, pos, none-rise, pass-start, pass_on, pass-stop, pass-end}
+use Prim.Native.Nat.{◌-◌, ◌≤◌}
+use native.Mathlib.Omega.{arith}
+use Rattle.sets.proofs.rising.Given as goal
+
+abbrev pub invariant-loop-i : goal.invariant-loop-i
+invariant-loop-i l = (1 ≤ l.i) × Pass l.s l.at l.n l.last l.i
+
+abbrev pub decreases-loop-i : goal.decreases-loop-i
+decreases-loop-i l = l.n - l.i

@@ -1,0 +1,97 @@
+-- The invariant: the buffer has the rows of the places from i on, laid over what it had.
+use borrow.Author.Rules.{rules}
+use native.Mathlib.Omega.{arith}
+use Prim.Native.Nat.{ℕ, suc, ◌+◌, ◌*◌, ◌-◌, ◌^◌, ◌<◌, ◌≤◌}
+use mathlib.Core.Path.{◌≡◌, refl, sym, ap, ◌∙◌}
+use mathlib.Core.List.{List, [], ◌∷◌}
+use lib.ListN.{length}
+use Rattle.paper.specs.Keys.{Bytes}
+use Rattle.paper.specs.Readers.{Row}
+use Rattle.paper.specs.Store.{rows_of}
+use Rattle.raw.proofs.Octets.{octets-of}
+use Rattle.layout.proofs.Streams.{All}
+use Rattle.table.specs.Rows.{lay_rows}
+use Rattle.table.specs.Places.{reads_in}
+use Rattle.table.proofs.Tags.{step, reads_from, reads_none, reads_all, reads-few, reads-fields, reads-free, reads-taken}
+use Rattle.table.proofs.RowsAnew.{lay-zero, lay-again, lay-long, none_rows, made-rowed, made-fine, made_more}
+use Rattle.table.proofs.rows_anew.Goals as goal
+
+pub loop-i-init : goal.loop-i-init
+loop-i-init c =
+    let b₀ : Bytes = c.put_be64.new.0 in
+    let e : b₀ ≡ lay_rows [] c.args.buf.now = c.put_be64.ensures ∙ lay-zero c.args.buf.now in
+    let l : length b₀ ≡ length c.args.buf.now = ap length e ∙ lay-long [] c.args.buf.now (omega arith) in
+    let n : reads_from c.args.state.now c.args.places c.args.stride c.args.count c.args.count ≡ [] = reads_none c.args.state.now c.args.places c.args.stride c.args.count in
+    (omega arith, refl, omega arith, sym (ap (λ (ts : List ℕ). lay_rows (rows_of ts) b₀) n ∙ none_rows b₀ ∙ ap (lay_rows []) e ∙ lay-again [] [] c.args.buf.now (omega arith) ∙ sym e))
+
+pub overflow_mul-at : goal.overflow_mul-at
+overflow_mul-at c =
+    let b : Bytes = c.args.state.now in
+    let places : ℕ = c.args.places in
+    let stride : ℕ = c.args.stride in
+    let count : ℕ = c.args.count in
+    let i : ℕ = c.loop-i.i in
+    let ends : places + (i - 1) * stride + 16 ≤ length b = omega (arith, step (i - 1) count stride (omega arith)) in
+    omega (arith, ends, c.well_formed)
+
+pub overflow_add-at : goal.overflow_add-at
+overflow_add-at c =
+    let b : Bytes = c.args.state.now in
+    let places : ℕ = c.args.places in
+    let stride : ℕ = c.args.stride in
+    let count : ℕ = c.args.count in
+    let i : ℕ = c.loop-i.i in
+    let ends : places + (i - 1) * stride + 16 ≤ length b = omega (arith, step (i - 1) count stride (omega arith)) in
+    omega (arith, ends, c.well_formed)
+
+pub be64-requires : goal.be64-requires
+be64-requires c =
+    let b : Bytes = c.args.state.now in
+    let places : ℕ = c.args.places in
+    let stride : ℕ = c.args.stride in
+    let count : ℕ = c.args.count in
+    let i : ℕ = c.loop-i.i in
+    let ends : places + (i - 1) * stride + 16 ≤ length b = omega (arith, step (i - 1) count stride (omega arith)) in
+    omega (arith, ends)
+
+pub overflow_add-at-then-be64-ne0 : goal.overflow_add-at-then-be64-ne0
+overflow_add-at-then-be64-ne0 c =
+    let b : Bytes = c.args.state.now in
+    let places : ℕ = c.args.places in
+    let stride : ℕ = c.args.stride in
+    let count : ℕ = c.args.count in
+    let i : ℕ = c.loop-i.i in
+    let ends : places + (i - 1) * stride + 16 ≤ length b = omega (arith, step (i - 1) count stride (omega arith)) in
+    omega (arith, ends, c.well_formed)
+
+pub be64-read-requires : goal.be64-read-requires
+be64-read-requires c =
+    let b : Bytes = c.args.state.now in
+    let places : ℕ = c.args.places in
+    let stride : ℕ = c.args.stride in
+    let count : ℕ = c.args.count in
+    let i : ℕ = c.loop-i.i in
+    let ends : places + (i - 1) * stride + 16 ≤ length b = omega (arith, step (i - 1) count stride (omega arith)) in
+    omega (arith, ends)
+
+pub loop-i-preserved : goal.loop-i-preserved
+loop-i-preserved c =
+    let b : Bytes = c.args.state.now in
+    let places : ℕ = c.args.places in
+    let stride : ℕ = c.args.stride in
+    let count : ℕ = c.args.count in
+    let i : ℕ = c.loop-i.i in
+    let laid : Bytes = c.put_be64.last.0 in
+    (omega (arith, c.loop-i.invariant.0), c.loop-i.invariant.1, c.loop-i.invariant.2, c.loop-i.invariant.3 ∙ ap (λ (us : List ℕ). lay_rows (rows_of us) (laid)) (sym (reads-free (b) (places) (stride) (count) (i) c.loop-i.invariant.0 c.loop-i-test.true (sym c.be64.ensures ∙ c.if-be64-ne0.false))))
+
+pub shape_of-buf : goal.shape_of-buf
+shape_of-buf c =
+    let e : c.put_be64.new.0 ≡ lay_rows [] c.args.buf.now = c.put_be64.ensures ∙ lay-zero c.args.buf.now in
+    c.loop-i.invariant.1 ∙ ap length e ∙ lay-long [] c.args.buf.now (omega arith)
+
+pub returns : goal.returns
+returns c =
+    let e : c.put_be64.new.0 ≡ lay_rows [] c.args.buf.now = c.put_be64.ensures ∙ lay-zero c.args.buf.now in
+    let rs : List Row = rows_of (reads_in c.args.state.now c.args.places c.args.stride c.args.count) in
+    c.loop-i.invariant.3 ∙ ap (λ (us : List ℕ). lay_rows (rows_of us) c.put_be64.new.0) (reads_all c.args.state.now c.args.places c.args.stride c.args.count c.loop-i.i (omega arith))
+    ∙ ap (lay_rows rs) e ∙ lay-again rs [] c.args.buf.now (omega arith)

@@ -1,0 +1,11 @@
+-- `watermark::cut` meets its contract. The loop's state is `Moving`.
+use Rattle.watermark.proofs.Moves.{Moving, move_start, move_step, move-length, move-end}
+use Prim.Native.Nat.{◌-◌}
+use native.Mathlib.Omega.{arith}
+use Rattle.watermark.proofs.cut.Given as goal
+
+abbrev pub invariant-loop-i : goal.invariant-loop-i
+invariant-loop-i l = Moving l.initial.slice l.from l.next l.to l.slice l.hole l.i
+
+abbrev pub decreases-loop-i : goal.decreases-loop-i
+decreases-loop-i l = l.to - l.i

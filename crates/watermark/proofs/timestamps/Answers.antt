@@ -1,0 +1,8 @@
+-- `watermark::timestamps` meets its contract.
+use Rattle.watermark.proofs.Answers.{timestamps-of}
+use borrow.Author.Rules.{rules}
+use Rattle.watermark.proofs.timestamps.Goals as goal
+
+pub returns : goal.returns
+returns c =
+    timestamps-of _ 0 c.args.used _ c.scan-s.result c.scan-s.ensures c.tell_timestamps.result c.tell_timestamps.ensures

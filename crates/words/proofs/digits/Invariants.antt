@@ -1,0 +1,15 @@
+-- The digits before i make n, which fits; what is left goes on from it.
+use Rattle.words.proofs.Handles.{digits_low, digits-high, digits-many, digits-on, digits-end}
+use Rattle.words.specs.Fields.{digits_from}
+use Rattle.paper.specs.Settings.{most_number}
+use Prim.Native.Nat.{◌-◌, ◌≤◌}
+use mathlib.Core.Path.{◌≡◌, refl, sym, ◌∙◌}
+use lib.ListN.{length, drop}
+use native.Mathlib.Omega.{arith}
+use Rattle.words.proofs.digits.Given as goal
+
+abbrev pub invariant-loop-i : goal.invariant-loop-i
+invariant-loop-i l = (l.n ≤ most_number) × (digits_from 0 l.s ≡ digits_from l.n (drop l.i l.s))
+
+abbrev pub decreases-loop-i : goal.decreases-loop-i
+decreases-loop-i l = length l.s - l.i
