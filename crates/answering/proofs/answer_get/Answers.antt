@@ -22,8 +22,8 @@ hand_value-requires c =
 
 pub returns-in-End : goal.returns-in-End
 returns-in-End c =
-    get_absent c.args.shape c.args.state.now c.args.place c.args.hash c.args.out.now c.args.answer c.read_fits.result c.read_fits.ensures c.if-not-read_fits.false-raw c.in-End.is c.note_read.new.0 c.note_read.ensures
+    get_absent c.args.shape c.args.state.now c.args.place c.args.hash c.args.out.now c.args.answer c.read_fits.result c.read_fits.ensures c.if-not-read_fits.false-raw c.in-End.is c.note_read.new.state c.note_read.ensures
 
 pub returns-in-At : goal.returns-in-At
 returns-in-At c =
-    get_present c.args.shape c.args.state.now c.args.place c.args.hash c.args.out.now c.args.answer c.read_fits.result c.read_fits.ensures c.in-At.p c.in-At.is _ c.hand_value.new.0 c.hand_value.new.1.1.1.1.1.0 c.hand_value.ensures
+    get_present c.args.shape c.args.state.now c.args.place c.args.hash c.args.out.now c.args.answer c.read_fits.result c.read_fits.ensures c.in-At.p c.in-At.is _ c.hand_value.new.state c.hand_value.new.out c.hand_value.ensures

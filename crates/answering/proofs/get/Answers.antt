@@ -43,4 +43,4 @@ returns-in-Closed c =
 pub returns-else-key-gt65535 : goal.returns-else-key-gt65535
 returns-else-key-gt65535 c =
     let bytes : octets c.args.state.now ≡ true = octets-of c.args.state.now (λ i. omega (arith, c.slice_known-1.given i)) in
-    get-rest c.args.state.now (bytes) c.requires c.args.handle c.args.key.now c.args.out.now c.seat_of.result c.seat_of.ensures c.in-Open.place c.in-Open.read c.in-Open.is c.shape_in-shape.result c.shape_in-shape.ensures c.if-key-eq0.false (omega (arith, c.if-key-gt65535.false)) c.view_of-view.result c.view_of-view.ensures _ c.get-answer.ensures.0 c.hash32-hash.result c.hash32-hash.ensures _ c.answer_get.new.0 c.answer_get.new.1.1.1.1.1.0 c.answer_get.ensures
+    get-rest c.args.state.now (bytes) c.requires c.args.handle c.args.key.now c.args.out.now c.seat_of.result c.seat_of.ensures c.in-Open.place c.in-Open.read c.in-Open.is c.shape_in-shape.result c.shape_in-shape.ensures c.if-key-eq0.false (omega (arith, c.if-key-gt65535.false)) c.view_of-view.result c.view_of-view.ensures _ c.get-answer.ensures.0 c.hash32-hash.result c.hash32-hash.ensures _ c.answer_get.new.state c.answer_get.new.out c.answer_get.ensures

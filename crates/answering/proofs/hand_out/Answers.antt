@@ -25,4 +25,4 @@ note_read-requires c =
 
 pub returns : goal.returns
 returns c =
-    pair-out c.args.shape c.args.state.now c.args.place c.args.keys.now c.args.values.now c.args.p c.requires.1 c.hash_in-handed.result c.hash_in-handed.ensures c.read_fits.result c.read_fits.ensures c.if-not-read_fits.false-raw (omega (arith, c.if-keys-key.false)) (omega (arith, c.if-values-value.false)) c.note_read.new.0 c.copy_out.new.0 c.copy_out-2.new.0 c.note_read.ensures c.copy_out.ensures c.copy_out-2.ensures
+    pair-out c.args.shape c.args.state.now c.args.place c.args.keys.now c.args.values.now c.args.p c.requires.1 c.hash_in-handed.result c.hash_in-handed.ensures c.read_fits.result c.read_fits.ensures c.if-not-read_fits.false-raw (omega (arith, c.if-keys-key.false)) (omega (arith, c.if-values-value.false)) c.note_read.new.state c.copy_out.new.out c.copy_out-2.new.out c.note_read.ensures c.copy_out.ensures c.copy_out-2.ensures

@@ -10,4 +10,4 @@ returns-then-out-length c =
 
 pub returns : goal.returns
 returns c =
-    value_out_lem c.args.shape c.args.state.now c.args.place c.args.hash c.args.out.now c.requires.2 c.args.p c.requires.3 (omega (arith, c.if-out-length.false)) c.note_read.new.0 c.copy_out.new.0 c.note_read.ensures c.copy_out.ensures
+    value_out_lem c.args.shape c.args.state.now c.args.place c.args.hash c.args.out.now c.requires.2 c.args.p c.requires.3 (omega (arith, c.if-out-length.false)) c.note_read.new.state c.copy_out.new.out c.note_read.ensures c.copy_out.ensures

@@ -14,4 +14,4 @@ add_read-requires c =
 
 pub returns : goal.returns
 returns c =
-    lent-noted c.args.shape c.args.state.now c.args.place c.requires.0 c.rooms_of.result c.rooms_of.ensures c.args.hash c.add_read.new.0 c.add_read.auto.0 c.add_read.ensures
+    lent-noted c.args.shape c.args.state.now c.args.place c.requires.0 c.rooms_of.result c.rooms_of.ensures c.args.hash c.add_read.new.place c.add_read.auto.place c.add_read.ensures

@@ -37,4 +37,4 @@ returns-in-End c =
 pub returns-in-At : goal.returns-in-At
 returns-in-At c =
     let bytes : octets c.args.state.now ≡ true = octets-of c.args.state.now (λ i. omega (arith, c.slice_known-1.given i)) in
-    scan-rest c.args.state.now (bytes) c.requires c.args.handle (bound_of c.args.low c.args.lo.now) (bound_of c.args.high c.args.hi.now) c.args.key-out.now c.args.value_out.now c.seat_of.result c.seat_of.ensures c.in-Open.place c.in-Open.read c.in-Open.is c.shape_in-shape.result c.shape_in-shape.ensures c.view_of-view.result c.view_of-view.ensures c.scan.result c.scan.ensures c.in-At.p c.in-At.is _ c.hand_out.new.0 c.hand_out.new.1.1.1.1.0 c.hand_out.new.1.1.1.1.1.0 c.hand_out.ensures
+    scan-rest c.args.state.now (bytes) c.requires c.args.handle (bound_of c.args.low c.args.lo.now) (bound_of c.args.high c.args.hi.now) c.args.key-out.now c.args.value_out.now c.seat_of.result c.seat_of.ensures c.in-Open.place c.in-Open.read c.in-Open.is c.shape_in-shape.result c.shape_in-shape.ensures c.view_of-view.result c.view_of-view.ensures c.scan.result c.scan.ensures c.in-At.p c.in-At.is _ c.hand_out.new.state c.hand_out.new.keys c.hand_out.new.values c.hand_out.ensures

@@ -42,7 +42,7 @@ pub returns-then-be64-eq0 : goal.returns-then-be64-eq0
 returns-then-be64-eq0 c =
     let bytes : octets c.args.state.now ≡ true = octets-of c.args.state.now (λ i. omega (arith, c.slice_known-1.given i)) in
     let opened : Seated (store_in c.args.state.now) c.args.handle c.in-Open.place c.in-Open.read true = subst (SeatTold (store_in c.args.state.now) c.args.handle) c.in-Open.is c.seat_of.ensures in
-    no_writes c.args.state.now c.requires c.args.handle (bytes) c.shape_in-shape.result c.shape_in-shape.ensures c.in-Open.place c.in-Open.read (opened) c.be64.result c.be64.ensures c.if-be64-eq0.true c.close.new.0 c.close.ensures
+    no_writes c.args.state.now c.requires c.args.handle (bytes) c.shape_in-shape.result c.shape_in-shape.ensures c.in-Open.place c.in-Open.read (opened) c.be64.result c.be64.ensures c.if-be64-eq0.true c.close.new.state c.close.ensures
 
 pub judge-requires : goal.judge-requires
 judge-requires c =
@@ -62,4 +62,4 @@ pub returns-else-be64-eq0 : goal.returns-else-be64-eq0
 returns-else-be64-eq0 c =
     let bytes : octets c.args.state.now ≡ true = octets-of c.args.state.now (λ i. omega (arith, c.slice_known-1.given i)) in
     let opened : Seated (store_in c.args.state.now) c.args.handle c.in-Open.place c.in-Open.read true = subst (SeatTold (store_in c.args.state.now) c.args.handle) c.in-Open.is c.seat_of.ensures in
-    judged-told c.args.state.now c.requires c.args.handle (bytes) c.shape_in-shape.result c.shape_in-shape.ensures c.in-Open.place c.in-Open.read (opened) c.be64.result c.be64.ensures c.if-be64-eq0.false (told_committed c.judge.result, c.judge.new.0) c.judge.ensures
+    judged-told c.args.state.now c.requires c.args.handle (bytes) c.shape_in-shape.result c.shape_in-shape.ensures c.in-Open.place c.in-Open.read (opened) c.be64.result c.be64.ensures c.if-be64-eq0.false (told_committed c.judge.result, c.judge.new.state) c.judge.ensures

@@ -25,9 +25,9 @@ close-requires c =
 
 pub returns-in-Nobody : goal.returns-in-Nobody
 returns-in-Nobody c =
-    clear_told c.args.state.now c.args.shape c.args.place c.requires c.opposed.result c.opposed.ensures c.in-Nobody.is (told_committed c.store_writes.result, c.store_writes.new.0) c.store_writes.ensures
+    clear_told c.args.state.now c.args.shape c.args.place c.requires c.opposed.result c.opposed.ensures c.in-Nobody.is (told_committed c.store_writes.result, c.store_writes.new.state) c.store_writes.ensures
 
 pub returns-in-By : goal.returns-in-By
 returns-in-By c =
     let bytes : octets c.args.state.now ≡ true = octets-of c.args.state.now (λ i. omega (arith, c.slice_known-1.given i)) in
-    conflict-told c.args.state.now c.args.shape c.args.place c.requires c.opposed.result c.opposed.ensures (bytes) c.in-By.number c.in-By.hash c.in-By.is c.close.new.0 c.close.ensures
+    conflict-told c.args.state.now c.args.shape c.args.place c.requires c.opposed.result c.opposed.ensures (bytes) c.in-By.number c.in-By.hash c.in-By.is c.close.new.state c.close.ensures

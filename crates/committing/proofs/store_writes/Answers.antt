@@ -47,4 +47,4 @@ write_all-requires c =
 pub returns : goal.returns
 returns c =
     let bytes : octets c.args.state.now ≡ true = octets-of c.args.state.now (λ i. omega (arith, c.slice_known-1.given i)) in
-    writes-told c.args.state.now (bytes) c.args.shape c.args.place c.requires c.be64-clock.result c.be64-clock.ensures c.if-clock.false (sym c.history_fits-kept.ensures ∙ not-false _ c.if-not-kept.false-raw) (sym c.active_fits-held.ensures ∙ not-false _ c.if-not-held.false-raw) c.write_all.new.0 c.write_all.ensures
+    writes-told c.args.state.now (bytes) c.args.shape c.args.place c.requires c.be64-clock.result c.be64-clock.ensures c.if-clock.false (sym c.history_fits-kept.ensures ∙ not-false _ c.if-not-kept.false-raw) (sym c.active_fits-held.ensures ∙ not-false _ c.if-not-held.false-raw) c.write_all.new.state c.write_all.ensures

@@ -16,4 +16,4 @@ absorb-size-requires c =
 
 pub returns : goal.returns
 returns c =
-    active-written c.args.state.now c.args.shape c.args.place c.args.number c.requires.0 c.requires.1 c.end_of-end.result c.end_of-stop.result c.end_of-end.ensures c.end_of-stop.ensures c.absorb-size.result c.absorb-size.new.0 c.put_be64.new.0 c.absorb-size.ensures.0 c.absorb-size.ensures.1 c.put_be64.ensures
+    active-written c.args.state.now c.args.shape c.args.place c.args.number c.requires.0 c.requires.1 c.end_of-end.result c.end_of-stop.result c.end_of-end.ensures c.end_of-stop.ensures c.absorb-size.result c.absorb-size.new.s c.put_be64.new.s c.absorb-size.ensures.0 c.absorb-size.ensures.1 c.put_be64.ensures

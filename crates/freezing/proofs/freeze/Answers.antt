@@ -45,4 +45,4 @@ freeze-requires c =
 pub returns : goal.returns
 returns c =
     let o = octets-of c.args.state.now (λ i. omega (arith, c.slice_known-1.given i)) in
-    frozen-told c.args.state.now o c.requires (sym c.is_empty.ensures ∙ c.if-is_empty.false) (sym c.freeze_fits.ensures ∙ not-false _ c.if-not-freeze_fits.false-raw) c.freeze.new.0 c.freeze.ensures
+    frozen-told c.args.state.now o c.requires (sym c.is_empty.ensures ∙ c.if-is_empty.false) (sym c.freeze_fits.ensures ∙ not-false _ c.if-not-freeze_fits.false-raw) c.freeze.new.state c.freeze.ensures

@@ -61,4 +61,4 @@ returns-else-state-needed c =
     let timed : open_answer (answer.Good c.in-Good.clock) ≡ clock_of (open_runs 1 (images_in c.args.images.now c.args.lengths.now)) = sym (ap open_answer c.in-Good.is) ∙ c.open_check.ensures in
     let roomy : images_fit (settings_of c.args.st) (images_in c.args.images.now c.args.lengths.now) ≡ true = sym (c.images_fit-fits.ensures (settings_of c.args.st) refl) ∙ not-false _ c.if-not-fits.false-raw in
     let passed : Passed (settings_of c.args.st) c.args.images.now c.args.lengths.now (length c.args.state.now) c.in-Good.clock = all-passed (settings_of c.args.st) c.args.images.now c.args.lengths.now c.args.state.now (ranged) c.in-Good.clock (timed) (roomy) (omega (arith, c.if-state-needed.false, c.state_length-needed.ensures.0)) in
-    ends-done (settings_of c.args.st) c.args.images.now c.args.lengths.now c.args.state.now c.in-Good.clock (passed) c.write_opened.new.0 c.write_opened.ensures
+    ends-done (settings_of c.args.st) c.args.images.now c.args.lengths.now c.args.state.now c.in-Good.clock (passed) c.write_opened.new.state c.write_opened.ensures

@@ -17,4 +17,4 @@ copy_at-requires c = omega (arith, c.lesser-n.ensures, length-take c.lesser-n.re
 
 pub returns : goal.returns
 returns c =
-    shown-copied c.args.out.now c.args.at c.copy_at.new.0 c.args.x.now c.lesser-n.result c.lesser-n.ensures c.copy_at.ensures
+    shown-copied c.args.out.now c.args.at c.copy_at.new.s c.args.x.now c.lesser-n.result c.lesser-n.ensures c.copy_at.ensures

@@ -7,8 +7,8 @@ use Rattle.script.proofs.get.Goals as goal
 
 pub got-requires : goal.got-requires
 got-requires c =
-    get-inside c.args.handle c.args.key.now c.args.state.now c.get-reply.new.0 (replicate 65535 0) c.get-reply.new.1.1.1.0 c.get-reply.result (length-replicate {A = ℕ} 65535 0) c.get-reply.ensures
+    get-inside c.args.handle c.args.key.now c.args.state.now c.get-reply.new.state (replicate 65535 0) c.get-reply.new.out c.get-reply.result (length-replicate {A = ℕ} 65535 0) c.get-reply.ensures
 
 pub returns : goal.returns
 returns c =
-    get-answer c.args.handle c.args.key.now c.args.state.now c.get-reply.new.0 (replicate 65535 0) c.get-reply.new.1.1.1.0 c.get-reply.result (length-replicate {A = ℕ} 65535 0) c.get-reply.ensures c.args.out.now c.args.at c.got.ensures
+    get-answer c.args.handle c.args.key.now c.args.state.now c.get-reply.new.state (replicate 65535 0) c.get-reply.new.out c.get-reply.result (length-replicate {A = ℕ} 65535 0) c.get-reply.ensures c.args.out.now c.args.at c.got.ensures

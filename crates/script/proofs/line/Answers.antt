@@ -80,17 +80,17 @@ returns-in-Begin c =
 pub returns-in-Get : goal.returns-in-Get
 unfolding call_of
 returns-in-Get c =
-    line-answer c.args.number c.args.line.now c.args.state.now c.args.out.now c.args.at c.in-Get.is c.understood-command.ensures.0 c.decimal-behind.ensures (answer-rest (λ x. Call.get c.in-Get.handle x longest) c.args.line.now c.in-Get.key c.args.state.now c.decimal-behind.new.0 c.decimal-behind.result c.get.ensures)
+    line-answer c.args.number c.args.line.now c.args.state.now c.args.out.now c.args.at c.in-Get.is c.understood-command.ensures.0 c.decimal-behind.ensures (answer-rest (λ x. Call.get c.in-Get.handle x longest) c.args.line.now c.in-Get.key c.args.state.now c.decimal-behind.new.out c.decimal-behind.result c.get.ensures)
 
 pub returns-in-Put : goal.returns-in-Put
 unfolding call_of
 returns-in-Put c =
-    line-answer c.args.number c.args.line.now c.args.state.now c.args.out.now c.args.at c.in-Put.is c.understood-command.ensures.0 c.decimal-behind.ensures (answer-rest (λ x. Call.put c.in-Put.handle (part c.args.line.now c.in-Put.key (c.in-Put.value - 1 - c.in-Put.key)) x) c.args.line.now c.in-Put.value c.args.state.now c.decimal-behind.new.0 c.decimal-behind.result c.put.ensures)
+    line-answer c.args.number c.args.line.now c.args.state.now c.args.out.now c.args.at c.in-Put.is c.understood-command.ensures.0 c.decimal-behind.ensures (answer-rest (λ x. Call.put c.in-Put.handle (part c.args.line.now c.in-Put.key (c.in-Put.value - 1 - c.in-Put.key)) x) c.args.line.now c.in-Put.value c.args.state.now c.decimal-behind.new.out c.decimal-behind.result c.put.ensures)
 
 pub returns-in-Delete : goal.returns-in-Delete
 unfolding call_of
 returns-in-Delete c =
-    line-answer c.args.number c.args.line.now c.args.state.now c.args.out.now c.args.at c.in-Delete.is c.understood-command.ensures.0 c.decimal-behind.ensures (answer-rest (λ x. Call.delete c.in-Delete.handle x) c.args.line.now c.in-Delete.key c.args.state.now c.decimal-behind.new.0 c.decimal-behind.result c.delete.ensures)
+    line-answer c.args.number c.args.line.now c.args.state.now c.args.out.now c.args.at c.in-Delete.is c.understood-command.ensures.0 c.decimal-behind.ensures (answer-rest (λ x. Call.delete c.in-Delete.handle x) c.args.line.now c.in-Delete.key c.args.state.now c.decimal-behind.new.out c.decimal-behind.result c.delete.ensures)
 
 pub returns-in-First : goal.returns-in-First
 unfolding call_of
@@ -100,7 +100,7 @@ returns-in-First c =
 pub returns-in-Above : goal.returns-in-Above
 unfolding call_of
 returns-in-Above c =
-    line-answer c.args.number c.args.line.now c.args.state.now c.args.out.now c.args.at c.in-Above.is c.understood-command.ensures.0 c.decimal-behind.ensures (answer-rest (λ x. Call.scan c.in-Above.handle (excluded x) unbounded longest longest) c.args.line.now c.in-Above.key c.args.state.now c.decimal-behind.new.0 c.decimal-behind.result c.scan-in-Above.ensures)
+    line-answer c.args.number c.args.line.now c.args.state.now c.args.out.now c.args.at c.in-Above.is c.understood-command.ensures.0 c.decimal-behind.ensures (answer-rest (λ x. Call.scan c.in-Above.handle (excluded x) unbounded longest longest) c.args.line.now c.in-Above.key c.args.state.now c.decimal-behind.new.out c.decimal-behind.result c.scan-in-Above.ensures)
 
 pub returns-in-Commit : goal.returns-in-Commit
 unfolding call_of
@@ -120,4 +120,4 @@ returns-in-Freeze c =
 pub returns-in-Unknown : goal.returns-in-Unknown
 unfolding call_of
 returns-in-Unknown c =
-    line-answer c.args.number c.args.line.now c.args.state.now c.args.out.now c.args.at c.in-Unknown.is c.understood-command.ensures.0 c.decimal-behind.ensures (answer-none c.args.state.now c.decimal-behind.new.0 c.decimal-behind.result c.only.ensures)
+    line-answer c.args.number c.args.line.now c.args.state.now c.args.out.now c.args.at c.in-Unknown.is c.understood-command.ensures.0 c.decimal-behind.ensures (answer-none c.args.state.now c.decimal-behind.new.out c.decimal-behind.result c.only.ensures)

@@ -7,4 +7,4 @@ use Rattle.script.proofs.open.Goals as goal
 
 pub returns : goal.returns
 unfolding replay_settings
-returns c = opened_in c.args.state.now c.requires (told_settled c.open.result) c.open.new.0 c.open.ensures
+returns c = opened_in c.args.state.now c.requires (told_settled c.open.result) c.open.new.state c.open.ensures

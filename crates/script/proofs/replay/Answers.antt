@@ -15,4 +15,4 @@ open-requires c = long-enough (replicate 54776 0) (length-replicate {A = ℕ} 54
 
 pub returns : goal.returns
 returns c =
-    c.lines.ensures ∙ ap (shown c.args.out.now 0) (run-whole c.args.input.now c.open.new.0 c.if-input-gt32768.false c.open.ensures)
+    c.lines.ensures ∙ ap (shown c.args.out.now 0) (run-whole c.args.input.now c.open.new.state c.if-input-gt32768.false c.open.ensures)

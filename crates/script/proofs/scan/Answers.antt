@@ -8,9 +8,9 @@ use Rattle.script.proofs.scan.Goals as goal
 pub scanned-requires : goal.scanned-requires
 scanned-requires c =
     let e = length-replicate {A = ℕ} 65535 0 in
-    scan-inside c.args.handle c.args.low c.args.lo.now c.args.state.now c.scan-reply.new.0 (replicate 65535 0) (replicate 65535 0) c.scan-reply.new.1.1.1.1.1.1.0 c.scan-reply.new.1.1.1.1.1.1.1.0 c.scan-reply.result e e c.scan-reply.ensures
+    scan-inside c.args.handle c.args.low c.args.lo.now c.args.state.now c.scan-reply.new.state (replicate 65535 0) (replicate 65535 0) c.scan-reply.new.key_out c.scan-reply.new.value_out c.scan-reply.result e e c.scan-reply.ensures
 
 pub returns : goal.returns
 returns c =
     let e = length-replicate {A = ℕ} 65535 0 in
-    scan-answer c.args.handle c.args.low c.args.lo.now c.args.state.now c.scan-reply.new.0 (replicate 65535 0) (replicate 65535 0) c.scan-reply.new.1.1.1.1.1.1.0 c.scan-reply.new.1.1.1.1.1.1.1.0 c.scan-reply.result e e c.scan-reply.ensures c.args.out.now c.args.at c.scanned.ensures
+    scan-answer c.args.handle c.args.low c.args.lo.now c.args.state.now c.scan-reply.new.state (replicate 65535 0) (replicate 65535 0) c.scan-reply.new.key_out c.scan-reply.new.value_out c.scan-reply.result e e c.scan-reply.ensures c.args.out.now c.args.at c.scanned.ensures

@@ -69,4 +69,4 @@ returns-in-Most c =
 pub returns-else-counter : goal.returns-else-counter
 returns-else-counter c =
     let o = octets-of c.args.state.now (λ i. omega (arith, c.slice_known-1.given i)) in
-    begins-told c.args.state.now o c.requires c.shape_in-shape.result c.shape_in-shape.ensures c.find_place.result c.find_place.ensures c.in-At.index c.in-At.start c.in-At.is c.be64-clock.result c.be64-clock.ensures c.check.result c.check.ensures c.in-Fine.is c.be64-counter.result c.be64-counter.ensures (omega (arith, c.if-counter.false)) c.enter.new.0 c.enter.ensures
+    begins-told c.args.state.now o c.requires c.shape_in-shape.result c.shape_in-shape.ensures c.find_place.result c.find_place.ensures c.in-At.index c.in-At.start c.in-At.is c.be64-clock.result c.be64-clock.ensures c.check.result c.check.ensures c.in-Fine.is c.be64-counter.result c.be64-counter.ensures (omega (arith, c.if-counter.false)) c.enter.new.state c.enter.ensures

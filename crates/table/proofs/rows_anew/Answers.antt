@@ -18,7 +18,7 @@ use Rattle.table.proofs.rows_anew.Goals as goal
 
 pub loop-i-init : goal.loop-i-init
 loop-i-init c =
-    let b₀ : Bytes = c.put_be64.new.0 in
+    let b₀ : Bytes = c.put_be64.new.s in
     let e : b₀ ≡ lay_rows [] c.args.buf.now = c.put_be64.ensures ∙ lay-zero c.args.buf.now in
     let l : length b₀ ≡ length c.args.buf.now = ap length e ∙ lay-long [] c.args.buf.now (omega arith) in
     let n : reads_from c.args.state.now c.args.places c.args.stride c.args.count c.args.count ≡ [] = reads_none c.args.state.now c.args.places c.args.stride c.args.count in
@@ -86,12 +86,12 @@ loop-i-preserved c =
 
 pub shape_of-buf : goal.shape_of-buf
 shape_of-buf c =
-    let e : c.put_be64.new.0 ≡ lay_rows [] c.args.buf.now = c.put_be64.ensures ∙ lay-zero c.args.buf.now in
+    let e : c.put_be64.new.s ≡ lay_rows [] c.args.buf.now = c.put_be64.ensures ∙ lay-zero c.args.buf.now in
     c.loop-i.invariant.1 ∙ ap length e ∙ lay-long [] c.args.buf.now (omega arith)
 
 pub returns : goal.returns
 returns c =
-    let e : c.put_be64.new.0 ≡ lay_rows [] c.args.buf.now = c.put_be64.ensures ∙ lay-zero c.args.buf.now in
+    let e : c.put_be64.new.s ≡ lay_rows [] c.args.buf.now = c.put_be64.ensures ∙ lay-zero c.args.buf.now in
     let rs : List Row = rows_of (reads_in c.args.state.now c.args.places c.args.stride c.args.count) in
-    c.loop-i.invariant.3 ∙ ap (λ (us : List ℕ). lay_rows (rows_of us) c.put_be64.new.0) (reads_all c.args.state.now c.args.places c.args.stride c.args.count c.loop-i.i (omega arith))
+    c.loop-i.invariant.3 ∙ ap (λ (us : List ℕ). lay_rows (rows_of us) c.put_be64.new.s) (reads_all c.args.state.now c.args.places c.args.stride c.args.count c.loop-i.i (omega arith))
     ∙ ap (lay_rows rs) e ∙ lay-again rs [] c.args.buf.now (omega arith)

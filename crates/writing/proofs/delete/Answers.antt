@@ -4,4 +4,4 @@ use Rattle.writing.proofs.Telling.{told-deleted}
 use Rattle.writing.proofs.delete.Goals as goal
 
 pub returns : goal.returns
-returns c = told-deleted c.args.state.now c.args.handle c.args.key.now c.put.result c.put.new.0 c.put.ensures
+returns c = told-deleted c.args.state.now c.args.handle c.args.key.now c.put.result c.put.new.state c.put.ensures

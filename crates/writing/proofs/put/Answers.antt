@@ -45,4 +45,4 @@ returns-in-Done c =
     let state-known : octets c.args.state.now ≡ true = octets-of c.args.state.now (λ i. omega (arith, c.slice_known-1.given i)) in
     let key-known : octets c.args.key.now ≡ true = octets-of c.args.key.now (λ i. omega (arith, c.type_inv.key i)) in
     let value-known : octets c.args.value.now ≡ true = octets-of c.args.value.now (λ i. omega (arith, c.type_inv.value i)) in
-    told-written c.args.state.now (state-known) c.requires c.args.handle c.args.key.now c.args.value.now c.seat_of.result c.seat_of.ensures c.in-Open.place c.in-Open.read c.in-Open.is c.shape_in-shape.result c.shape_in-shape.ensures c.lengths.result c.lengths.ensures c.in-Done.is (key-known) (value-known) c.write.new.0 c.write.result c.write.ensures
+    told-written c.args.state.now (state-known) c.requires c.args.handle c.args.key.now c.args.value.now c.seat_of.result c.seat_of.ensures c.in-Open.place c.in-Open.read c.in-Open.is c.shape_in-shape.result c.shape_in-shape.ensures c.lengths.result c.lengths.ensures c.in-Done.is (key-known) (value-known) c.write.new.place c.write.result c.write.ensures

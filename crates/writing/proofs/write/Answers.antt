@@ -14,4 +14,4 @@ returns-in-Refused c =
 
 pub returns-in-Done : goal.returns-in-Done
 returns-in-Done c =
-    write_done c.args.rooms c.args.serializable c.args.place.now c.args.key.now c.args.value.now c.hash32-hash.result c.hash32-hash.ensures c.room.result c.room.ensures c.in-Done.is c.put.new.0 c.put.ensures
+    write_done c.args.rooms c.args.serializable c.args.place.now c.args.key.now c.args.value.now c.hash32-hash.result c.hash32-hash.ensures c.room.result c.room.ensures c.in-Done.is c.put.new.place c.put.ensures
