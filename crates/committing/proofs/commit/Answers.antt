@@ -21,34 +21,34 @@ pub overflow_add-place : goal.overflow_add-place
 overflow_add-place c =
     let bytes : octets c.args.state.now ≡ true = octets-of c.args.state.now (λ i. omega (arith, c.slice_known-1.given i)) in
     let opened : Seated (store_in c.args.state.now) c.args.handle c.in-Open.place c.in-Open.read true = subst (SeatTold (store_in c.args.state.now) c.args.handle) c.in-Open.is c.seat_of.ensures in
-    let inside : (c.in-Open.place + 24 + 8 ≤ length c.args.state.now) × (c.in-Open.place + 32 < 134217728) = marks-inside c.args.state.now c.requires c.shape_in-shape.result c.shape_in-shape.ensures c.args.handle c.in-Open.place c.in-Open.read true (opened) (bytes) in
+    let inside : (c.in-Open.place + 24 + 8 ≤ length c.args.state.now) × (c.in-Open.place + 32 < 134217728) = marks-inside c.args.state.now c.requires c.shape_in-shape.result c.shape_in-shape.ensures c.args.handle c.in-Open.place c.in-Open.read true opened bytes in
     let w = inside in omega (arith, w)
 
 pub be64-requires : goal.be64-requires
 be64-requires c =
     let bytes : octets c.args.state.now ≡ true = octets-of c.args.state.now (λ i. omega (arith, c.slice_known-1.given i)) in
     let opened : Seated (store_in c.args.state.now) c.args.handle c.in-Open.place c.in-Open.read true = subst (SeatTold (store_in c.args.state.now) c.args.handle) c.in-Open.is c.seat_of.ensures in
-    let inside : (c.in-Open.place + 24 + 8 ≤ length c.args.state.now) × (c.in-Open.place + 32 < 134217728) = marks-inside c.args.state.now c.requires c.shape_in-shape.result c.shape_in-shape.ensures c.args.handle c.in-Open.place c.in-Open.read true (opened) (bytes) in
+    let inside : (c.in-Open.place + 24 + 8 ≤ length c.args.state.now) × (c.in-Open.place + 32 < 134217728) = marks-inside c.args.state.now c.requires c.shape_in-shape.result c.shape_in-shape.ensures c.args.handle c.in-Open.place c.in-Open.read true opened bytes in
     let w = inside in w.0
 
 pub close-requires : goal.close-requires
 close-requires c =
     let bytes : octets c.args.state.now ≡ true = octets-of c.args.state.now (λ i. omega (arith, c.slice_known-1.given i)) in
     let opened : Seated (store_in c.args.state.now) c.args.handle c.in-Open.place c.in-Open.read true = subst (SeatTold (store_in c.args.state.now) c.args.handle) c.in-Open.is c.seat_of.ensures in
-    let inside : (c.in-Open.place + 24 + 8 ≤ length c.args.state.now) × (c.in-Open.place + 32 < 134217728) = marks-inside c.args.state.now c.requires c.shape_in-shape.result c.shape_in-shape.ensures c.args.handle c.in-Open.place c.in-Open.read true (opened) (bytes) in
+    let inside : (c.in-Open.place + 24 + 8 ≤ length c.args.state.now) × (c.in-Open.place + 32 < 134217728) = marks-inside c.args.state.now c.requires c.shape_in-shape.result c.shape_in-shape.ensures c.args.handle c.in-Open.place c.in-Open.read true opened bytes in
     let w = inside in omega (arith, w)
 
 pub returns-then-be64-eq0 : goal.returns-then-be64-eq0
 returns-then-be64-eq0 c =
     let bytes : octets c.args.state.now ≡ true = octets-of c.args.state.now (λ i. omega (arith, c.slice_known-1.given i)) in
     let opened : Seated (store_in c.args.state.now) c.args.handle c.in-Open.place c.in-Open.read true = subst (SeatTold (store_in c.args.state.now) c.args.handle) c.in-Open.is c.seat_of.ensures in
-    no_writes c.args.state.now c.requires c.args.handle (bytes) c.shape_in-shape.result c.shape_in-shape.ensures c.in-Open.place c.in-Open.read (opened) c.be64.result c.be64.ensures c.if-be64-eq0.true c.close.new.state c.close.ensures
+    no_writes c.args.state.now c.requires c.args.handle bytes c.shape_in-shape.result c.shape_in-shape.ensures c.in-Open.place c.in-Open.read opened c.be64.result c.be64.ensures c.if-be64-eq0.true c.close.new.state c.close.ensures
 
 pub judge-requires : goal.judge-requires
 judge-requires c =
     let bytes : octets c.args.state.now ≡ true = octets-of c.args.state.now (λ i. omega (arith, c.slice_known-1.given i)) in
     let opened : Seated (store_in c.args.state.now) c.args.handle c.in-Open.place c.in-Open.read true = subst (SeatTold (store_in c.args.state.now) c.args.handle) c.in-Open.is c.seat_of.ensures in
-    may-commit c.args.state.now c.requires c.args.handle (bytes) c.shape_in-shape.result c.shape_in-shape.ensures c.in-Open.place c.in-Open.read (opened) c.be64.result c.be64.ensures c.if-be64-eq0.false
+    may-commit c.args.state.now c.requires c.args.handle bytes c.shape_in-shape.result c.shape_in-shape.ensures c.in-Open.place c.in-Open.read opened c.be64.result c.be64.ensures c.if-be64-eq0.false
 
 pub returns-in-Missing : goal.returns-in-Missing
 returns-in-Missing c =
@@ -62,4 +62,4 @@ pub returns-else-be64-eq0 : goal.returns-else-be64-eq0
 returns-else-be64-eq0 c =
     let bytes : octets c.args.state.now ≡ true = octets-of c.args.state.now (λ i. omega (arith, c.slice_known-1.given i)) in
     let opened : Seated (store_in c.args.state.now) c.args.handle c.in-Open.place c.in-Open.read true = subst (SeatTold (store_in c.args.state.now) c.args.handle) c.in-Open.is c.seat_of.ensures in
-    judged-told c.args.state.now c.requires c.args.handle (bytes) c.shape_in-shape.result c.shape_in-shape.ensures c.in-Open.place c.in-Open.read (opened) c.be64.result c.be64.ensures c.if-be64-eq0.false (told_committed c.judge.result, c.judge.new.state) c.judge.ensures
+    judged-told c.args.state.now c.requires c.args.handle bytes c.shape_in-shape.result c.shape_in-shape.ensures c.in-Open.place c.in-Open.read opened c.be64.result c.be64.ensures c.if-be64-eq0.false (told_committed c.judge.result, c.judge.new.state) c.judge.ensures

@@ -21,7 +21,7 @@ store_writes-requires c =
 pub close-requires : goal.close-requires
 close-requires c =
     let bytes : octets c.args.state.now ≡ true = octets-of c.args.state.now (λ i. omega (arith, c.slice_known-1.given i)) in
-    omega (arith, marks-inside c.args.state.now c.requires.sound c.args.shape c.requires.shape c.requires.handle c.args.place c.requires.read true c.requires.seat (bytes))
+    omega (arith, marks-inside c.args.state.now c.requires.sound c.args.shape c.requires.shape c.requires.handle c.args.place c.requires.read true c.requires.seat bytes)
 
 pub returns-in-Nobody : goal.returns-in-Nobody
 returns-in-Nobody c =
@@ -30,4 +30,4 @@ returns-in-Nobody c =
 pub returns-in-By : goal.returns-in-By
 returns-in-By c =
     let bytes : octets c.args.state.now ≡ true = octets-of c.args.state.now (λ i. omega (arith, c.slice_known-1.given i)) in
-    conflict-told c.args.state.now c.args.shape c.args.place c.requires c.opposed.result c.opposed.ensures (bytes) c.in-By.number c.in-By.hash c.in-By.is c.close.new.state c.close.ensures
+    conflict-told c.args.state.now c.args.shape c.args.place c.requires c.opposed.result c.opposed.ensures bytes c.in-By.number c.in-By.hash c.in-By.is c.close.new.state c.close.ensures

@@ -60,7 +60,7 @@ loop-next-preserved c =
       e.inside,
       e.key,
       omega (arith, e.value, e.inside),
-      verdict-next c.args.s.now (known) c.loop-next.next c.args.end (span c.args.s.now c.loop-next.ps c.loop-next.pe) (overlay_in c.args.s.now c.args.at c.args.end) c.loop-next.invariant.3 c.requires.1 c.loop-next-test.true c.in-Whole.ke c.in-Whole.ve e
+      verdict-next c.args.s.now known c.loop-next.next c.args.end (span c.args.s.now c.loop-next.ps c.loop-next.pe) (overlay_in c.args.s.now c.args.at c.args.end) c.loop-next.invariant.3 c.requires.1 c.loop-next-test.true c.in-Whole.ke c.in-Whole.ve e
           (sym c.compare.ensures ∙ ap ordering c.in-Less.is),
     )
 
@@ -68,14 +68,14 @@ pub returns-in-Equal : goal.returns-in-Equal
 returns-in-Equal c =
     let told : ReadAt c.args.s.now c.loop-next.next c.args.end (Read.Whole c.in-Whole.ke c.in-Whole.ve) = subst (λ (r : Read). ReadAt c.args.s.now c.loop-next.next c.args.end r) c.in-Whole.is c.entry_at.ensures in
     let known : octets c.args.s.now ≡ true = octets-of c.args.s.now (λ i. omega (arith, c.type_inv.s i)) in
-    verdict-low c.args.s.now (known) c.loop-next.next c.args.end (span c.args.s.now c.loop-next.ps c.loop-next.pe) (overlay_in c.args.s.now c.args.at c.args.end) c.loop-next.invariant.3 c.requires.1 c.loop-next-test.true c.in-Whole.ke c.in-Whole.ve (told)
+    verdict-low c.args.s.now known c.loop-next.next c.args.end (span c.args.s.now c.loop-next.ps c.loop-next.pe) (overlay_in c.args.s.now c.args.at c.args.end) c.loop-next.invariant.3 c.requires.1 c.loop-next-test.true c.in-Whole.ke c.in-Whole.ve told
     (ap is_lt (sym c.compare.ensures ∙ ap ordering c.in-Equal.is))
 
 pub returns-in-Greater : goal.returns-in-Greater
 returns-in-Greater c =
     let told : ReadAt c.args.s.now c.loop-next.next c.args.end (Read.Whole c.in-Whole.ke c.in-Whole.ve) = subst (λ (r : Read). ReadAt c.args.s.now c.loop-next.next c.args.end r) c.in-Whole.is c.entry_at.ensures in
     let known : octets c.args.s.now ≡ true = octets-of c.args.s.now (λ i. omega (arith, c.type_inv.s i)) in
-    verdict-low c.args.s.now (known) c.loop-next.next c.args.end (span c.args.s.now c.loop-next.ps c.loop-next.pe) (overlay_in c.args.s.now c.args.at c.args.end) c.loop-next.invariant.3 c.requires.1 c.loop-next-test.true c.in-Whole.ke c.in-Whole.ve (told)
+    verdict-low c.args.s.now known c.loop-next.next c.args.end (span c.args.s.now c.loop-next.ps c.loop-next.pe) (overlay_in c.args.s.now c.args.at c.args.end) c.loop-next.invariant.3 c.requires.1 c.loop-next-test.true c.in-Whole.ke c.in-Whole.ve told
     (ap is_lt (sym c.compare.ensures ∙ ap ordering c.in-Greater.is))
 
 pub returns : goal.returns

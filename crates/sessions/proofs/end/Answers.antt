@@ -39,9 +39,9 @@ returns-in-Missing c =
 pub returns-in-Open : goal.returns-in-Open
 returns-in-Open c =
     let opened : Seated (store_in c.args.state.now) c.args.handle c.in-Open.place c.in-Open.read true = subst (SeatTold (store_in c.args.state.now) c.args.handle) c.in-Open.is c.seat_of.ensures in
-    ends-told c.args.state.now c.requires c.args.handle c.in-Open.place c.in-Open.read true (opened) c.leave.new.state c.leave.ensures
+    ends-told c.args.state.now c.requires c.args.handle c.in-Open.place c.in-Open.read true opened c.leave.new.state c.leave.ensures
 
 pub returns-in-Closed : goal.returns-in-Closed
 returns-in-Closed c =
     let closed : Seated (store_in c.args.state.now) c.args.handle c.in-Closed.place c.in-Closed.read false = subst (SeatTold (store_in c.args.state.now) c.args.handle) c.in-Closed.is c.seat_of.ensures in
-    ends-told c.args.state.now c.requires c.args.handle c.in-Closed.place c.in-Closed.read false (closed) c.leave-in-Closed.new.state c.leave-in-Closed.ensures
+    ends-told c.args.state.now c.requires c.args.handle c.in-Closed.place c.in-Closed.read false closed c.leave-in-Closed.new.state c.leave-in-Closed.ensures

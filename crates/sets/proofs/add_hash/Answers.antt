@@ -28,4 +28,4 @@ pub returns-in-Gap : goal.returns-in-Gap
 returns-in-Gap c =
     let grown : length (insert compare c.args.h (hashes_in c.args.s.now c.args.at c.args.n)) ≡ c.args.n + 1 = let g = found-gap c.args.h _ (hashes_in c.args.s.now c.args.at c.args.n) (sym c.in-Gap.is ∙ c.find_hash.ensures) in
     length-new c.args.h (hashes_in c.args.s.now c.args.at c.args.n) c.requires.1 g.0 ∙ ap (λ (m : ℕ). m + 1) (length-hashes c.args.n (drop c.args.at c.args.s.now)) in
-    (sym (grown), c.insert_hash.ensures)
+    (sym grown, c.insert_hash.ensures)

@@ -36,14 +36,14 @@ returns-in-Wrong c =
     let here : Lies c.args.state.now (settings_of c.args.st) c.shape_of-shape.result = lies _ (settings_of c.args.st) c.shape_of-shape.result c.requires c.shape_of-shape.ensures in
     let active-here : ActiveSays (settings_of c.args.st) c.args.state.now c.args.clock c.active_check.result = let h = here in
     active-told (settings_of c.args.st) c.args.state.now c.args.clock _ _ h.shape.active (omega (arith, h.active)) c.active_check.result c.active_check.ensures in
-    runs-active (settings_of c.args.st) c.args.state.now c.args.clock (subst (ActiveSays (settings_of c.args.st) c.args.state.now c.args.clock) c.in-Wrong.is (active-here))
+    runs-active (settings_of c.args.st) c.args.state.now c.args.clock (subst (ActiveSays (settings_of c.args.st) c.args.state.now c.args.clock) c.in-Wrong.is active-here)
 
 pub returns-in-Wrong-area_check : goal.returns-in-Wrong-area_check
 returns-in-Wrong-area_check c =
     let here : Lies c.args.state.now (settings_of c.args.st) c.shape_of-shape.result = lies _ (settings_of c.args.st) c.shape_of-shape.result c.requires c.shape_of-shape.ensures in
     let area-here : AreaSays (settings_of c.args.st) c.args.state.now c.args.clock c.area_check.result = let h = here in
     area-told (settings_of c.args.st) c.args.state.now c.args.clock _ _ h.shape.area (omega (arith, h.area)) c.area_check.result c.area_check.ensures in
-    runs-area (settings_of c.args.st) c.args.state.now c.args.clock (subst (AreaSays (settings_of c.args.st) c.args.state.now c.args.clock) c.in-Wrong-area_check.is (area-here))
+    runs-area (settings_of c.args.st) c.args.state.now c.args.clock (subst (AreaSays (settings_of c.args.st) c.args.state.now c.args.clock) c.in-Wrong-area_check.is area-here)
 
 pub returns-in-Runs : goal.returns-in-Runs
 returns-in-Runs c =
@@ -53,4 +53,4 @@ returns-in-Runs c =
     let area-here : AreaSays (settings_of c.args.st) c.args.state.now c.args.clock c.area_check.result = let h = here in
     area-told (settings_of c.args.st) c.args.state.now c.args.clock _ _ h.shape.area (omega (arith, h.area)) c.area_check.result c.area_check.ensures in
     c.newer.ensures
-    ∙ runs-tied (settings_of c.args.st) c.args.state.now c.args.clock (omega (arith, c.ranges.clock.fits)) _ _ _ (subst (ActiveSays (settings_of c.args.st) c.args.state.now c.args.clock) c.in-Run.is (active-here)) (subst (AreaSays (settings_of c.args.st) c.args.state.now c.args.clock) c.in-Runs.is (area-here))
+    ∙ runs-tied (settings_of c.args.st) c.args.state.now c.args.clock (omega (arith, c.ranges.clock.fits)) _ _ _ (subst (ActiveSays (settings_of c.args.st) c.args.state.now c.args.clock) c.in-Run.is active-here) (subst (AreaSays (settings_of c.args.st) c.args.state.now c.args.clock) c.in-Runs.is area-here)

@@ -24,7 +24,7 @@ returns-then-not-distinct_handles c =
     let here : Lies c.args.state.now (settings_of c.args.st) c.shape_of-shape.result = lies _ (settings_of c.args.st) c.shape_of-shape.result c.requires.0 c.shape_of-shape.ensures in
     let bytes-here : octets c.args.state.now ≡ true = octets-of _ (λ i. omega (arith, c.type_inv.state i)) in
     let h = here in
-    handles-fail (settings_of c.args.st) c.args.state.now (bytes-here) c.requires.0 c.requires.1 c.shape_of-shape.result h.shape (sym c.distinct_handles.ensures ∙ not-true _ c.if-not-distinct_handles.true-raw)
+    handles-fail (settings_of c.args.st) c.args.state.now bytes-here c.requires.0 c.requires.1 c.shape_of-shape.result h.shape (sym c.distinct_handles.ensures ∙ not-true _ c.if-not-distinct_handles.true-raw)
 
 pub slice_bounds-rows_match-count : goal.slice_bounds-rows_match-count
 slice_bounds-rows_match-count c =
@@ -52,4 +52,4 @@ returns c =
     let bytes-here : octets c.args.state.now ≡ true = octets-of _ (λ i. omega (arith, c.type_inv.state i)) in
     let h = here in
     c.rows_match.ensures
-    ∙ rows-tied (settings_of c.args.st) c.args.state.now (bytes-here) c.requires.0 c.requires.1 c.shape_of-shape.result h.shape (c.shape_of-shape.result.history - 88) (omega (arith, h.rows)) (sym c.distinct_handles.ensures ∙ not-false _ c.if-not-distinct_handles.false-raw)
+    ∙ rows-tied (settings_of c.args.st) c.args.state.now bytes-here c.requires.0 c.requires.1 c.shape_of-shape.result h.shape (c.shape_of-shape.result.history - 88) (omega (arith, h.rows)) (sym c.distinct_handles.ensures ∙ not-false _ c.if-not-distinct_handles.false-raw)

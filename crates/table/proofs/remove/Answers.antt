@@ -17,16 +17,16 @@ drop_row-requires c =
     let b : Bytes = c.args.region.now in
     let y : octets b ≡ true = octets-of b (λ i. omega (arith, c.slice_known-1.given i)) in
     let W : Rowed b = c.requires in
-    let here : Here c.in-Here.k c.in-Here.n c.in-Here.count ≡ spot_of c.args.t (rows_in (b)) = sym c.in-Here.is ∙ c.spot_of.ensures in
-    here-holds (b) (y) (W) _ _ _ _ (here)
+    let here : Here c.in-Here.k c.in-Here.n c.in-Here.count ≡ spot_of c.args.t (rows_in b) = sym c.in-Here.is ∙ c.spot_of.ensures in
+    here-holds b y W _ _ _ _ here
 
 pub overflow_mul-k : goal.overflow_mul-k
 overflow_mul-k c =
     let b : Bytes = c.args.region.now in
     let y : octets b ≡ true = octets-of b (λ i. omega (arith, c.slice_known-1.given i)) in
     let W : Rowed b = c.requires in
-    let here : Here c.in-Here.k c.in-Here.n c.in-Here.count ≡ spot_of c.args.t (rows_in (b)) = sym c.in-Here.is ∙ c.spot_of.ensures in
-    let within : 24 + 16 * c.in-Here.k ≤ length (b) = here-within (b) (y) (W) _ _ _ _ (here) in
+    let here : Here c.in-Here.k c.in-Here.n c.in-Here.count ≡ spot_of c.args.t (rows_in b) = sym c.in-Here.is ∙ c.spot_of.ensures in
+    let within : 24 + 16 * c.in-Here.k ≤ length b = here-within b y W _ _ _ _ here in
     omega (arith, within, c.well_formed)
 
 pub overflow_add-k : goal.overflow_add-k
@@ -34,8 +34,8 @@ overflow_add-k c =
     let b : Bytes = c.args.region.now in
     let y : octets b ≡ true = octets-of b (λ i. omega (arith, c.slice_known-1.given i)) in
     let W : Rowed b = c.requires in
-    let here : Here c.in-Here.k c.in-Here.n c.in-Here.count ≡ spot_of c.args.t (rows_in (b)) = sym c.in-Here.is ∙ c.spot_of.ensures in
-    let within : 24 + 16 * c.in-Here.k ≤ length (b) = here-within (b) (y) (W) _ _ _ _ (here) in
+    let here : Here c.in-Here.k c.in-Here.n c.in-Here.count ≡ spot_of c.args.t (rows_in b) = sym c.in-Here.is ∙ c.spot_of.ensures in
+    let within : 24 + 16 * c.in-Here.k ≤ length b = here-within b y W _ _ _ _ here in
     omega (arith, within, c.well_formed)
 
 pub put_be64-requires : goal.put_be64-requires
@@ -43,8 +43,8 @@ put_be64-requires c =
     let b : Bytes = c.args.region.now in
     let y : octets b ≡ true = octets-of b (λ i. omega (arith, c.slice_known-1.given i)) in
     let W : Rowed b = c.requires in
-    let here : Here c.in-Here.k c.in-Here.n c.in-Here.count ≡ spot_of c.args.t (rows_in (b)) = sym c.in-Here.is ∙ c.spot_of.ensures in
-    let within : 24 + 16 * c.in-Here.k ≤ length (b) = here-within (b) (y) (W) _ _ _ _ (here) in
+    let here : Here c.in-Here.k c.in-Here.n c.in-Here.count ≡ spot_of c.args.t (rows_in b) = sym c.in-Here.is ∙ c.spot_of.ensures in
+    let within : 24 + 16 * c.in-Here.k ≤ length b = here-within b y W _ _ _ _ here in
     omega (arith, within)
 
 pub returns-then-count-le1 : goal.returns-then-count-le1
@@ -52,20 +52,20 @@ returns-then-count-le1 c =
     let b : Bytes = c.args.region.now in
     let y : octets b ≡ true = octets-of b (λ i. omega (arith, c.slice_known-1.given i)) in
     let W : Rowed b = c.requires in
-    let here : Here c.in-Here.k c.in-Here.n c.in-Here.count ≡ spot_of c.args.t (rows_in (b)) = sym c.in-Here.is ∙ c.spot_of.ensures in
-    c.drop_row.ensures ∙ here-last (b) (y) (W) _ _ _ _ (here) c.if-count-le1.true
+    let here : Here c.in-Here.k c.in-Here.n c.in-Here.count ≡ spot_of c.args.t (rows_in b) = sym c.in-Here.is ∙ c.spot_of.ensures in
+    c.drop_row.ensures ∙ here-last b y W _ _ _ _ here c.if-count-le1.true
 
 pub returns-else-count-le1 : goal.returns-else-count-le1
 returns-else-count-le1 c =
     let b : Bytes = c.args.region.now in
     let y : octets b ≡ true = octets-of b (λ i. omega (arith, c.slice_known-1.given i)) in
     let W : Rowed b = c.requires in
-    let here : Here c.in-Here.k c.in-Here.n c.in-Here.count ≡ spot_of c.args.t (rows_in (b)) = sym c.in-Here.is ∙ c.spot_of.ensures in
-    c.put_be64.ensures ∙ here-less (b) (y) (W) _ _ _ _ (here) (omega arith)
+    let here : Here c.in-Here.k c.in-Here.n c.in-Here.count ≡ spot_of c.args.t (rows_in b) = sym c.in-Here.is ∙ c.spot_of.ensures in
+    c.put_be64.ensures ∙ here-less b y W _ _ _ _ here (omega arith)
 
 pub returns-in-Gap : goal.returns-in-Gap
 returns-in-Gap c =
     let b : Bytes = c.args.region.now in
     let y : octets b ≡ true = octets-of b (λ i. omega (arith, c.slice_known-1.given i)) in
     let W : Rowed b = c.requires in
-    gap-remove (b) (y) (W) _ _ _ (sym c.in-Gap.is ∙ c.spot_of.ensures)
+    gap-remove b y W _ _ _ (sym c.in-Gap.is ∙ c.spot_of.ensures)

@@ -74,6 +74,39 @@ be64-read-requires c =
     let ends : places + (i - 1) * stride + 16 ≤ length b = omega (arith, step (i - 1) count stride (omega arith)) in
     omega (arith, ends)
 
+pub add-requires : goal.add-requires
+add-requires c =
+    let b : Bytes = c.args.state.now in
+    let places : ℕ = c.args.places in
+    let stride : ℕ = c.args.stride in
+    let count : ℕ = c.args.count in
+    let i : ℕ = c.loop-i.i in
+    let laid : Bytes = c.put_be64.new.s in
+    let fields : All (λ r. r < 256 ^ 8) (reads_from b places stride count i) = reads-fields b places stride count i c.loop-i.invariant.0 (octets-of b (λ j. omega (arith, c.type_inv.state j)))
+    c.requires.1 c.requires.0 in
+    let long : 8 + 16 * suc (length (reads_from b places stride count i)) ≤ length laid = omega (arith, reads-few b places stride count i c.loop-i.invariant.0) in
+    let fits : length laid < 256 ^ 8 = omega (arith, c.well_formed) in
+    (made-rowed laid (reads_from b places stride count i) c.be64-read.result long fits fields c.loop-i.buf c.loop-i.invariant.3, made-fine laid (reads_from b places stride count i) c.be64-read.result long fits fields c.loop-i.buf c.loop-i.invariant.3)
+
+pub loop-i-preserved-then-be64-ne0 : goal.loop-i-preserved-then-be64-ne0
+loop-i-preserved-then-be64-ne0 c =
+    let b : Bytes = c.args.state.now in
+    let places : ℕ = c.args.places in
+    let stride : ℕ = c.args.stride in
+    let count : ℕ = c.args.count in
+    let i : ℕ = c.loop-i.i in
+    let laid : Bytes = c.put_be64.new.s in
+    let fields : All (λ r. r < 256 ^ 8) (reads_from b places stride count i) = reads-fields b places stride count i c.loop-i.invariant.0 (octets-of b (λ j. omega (arith, c.type_inv.state j)))
+    c.requires.1 c.requires.0 in
+    let long : 8 + 16 * suc (length (reads_from b places stride count i)) ≤ length laid = omega (arith, reads-few b places stride count i c.loop-i.invariant.0) in
+    let fits : length laid < 256 ^ 8 = omega (arith, c.well_formed) in
+    let ts : List ℕ = reads_from b places stride count i in
+    let r : reads_from b places stride count (i - 1) ≡ c.be64-read.result ∷ ts =
+    reads-taken b places stride count i c.loop-i.invariant.0 c.loop-i-test.true (λ e. c.if-be64-ne0.true (c.be64.ensures ∙ e)) ∙ ap (λ (n : ℕ). n ∷ ts) (sym c.be64-read.ensures) in
+    let e : c.add.new.region ≡ lay_rows (rows_of (reads_from b places stride count (i - 1))) laid =
+    c.add.ensures ∙ made_more laid ts c.be64-read.result long fits fields c.loop-i.buf c.loop-i.invariant.3 ∙ ap (λ (us : List ℕ). lay_rows (rows_of us) laid) (sym r) in
+    (omega (arith, c.loop-i.invariant.0), search rules, c.loop-i.invariant.2, e)
+
 pub loop-i-preserved : goal.loop-i-preserved
 loop-i-preserved c =
     let b : Bytes = c.args.state.now in
@@ -81,8 +114,8 @@ loop-i-preserved c =
     let stride : ℕ = c.args.stride in
     let count : ℕ = c.args.count in
     let i : ℕ = c.loop-i.i in
-    let laid : Bytes = c.put_be64.last.0 in
-    (omega (arith, c.loop-i.invariant.0), c.loop-i.invariant.1, c.loop-i.invariant.2, c.loop-i.invariant.3 ∙ ap (λ (us : List ℕ). lay_rows (rows_of us) (laid)) (sym (reads-free (b) (places) (stride) (count) (i) c.loop-i.invariant.0 c.loop-i-test.true (sym c.be64.ensures ∙ c.if-be64-ne0.false))))
+    let laid : Bytes = c.put_be64.new.s in
+    (omega (arith, c.loop-i.invariant.0), c.loop-i.invariant.1, c.loop-i.invariant.2, c.loop-i.invariant.3 ∙ ap (λ (us : List ℕ). lay_rows (rows_of us) laid) (sym (reads-free b places stride count i c.loop-i.invariant.0 c.loop-i-test.true (sym c.be64.ensures ∙ c.if-be64-ne0.false))))
 
 pub shape_of-buf : goal.shape_of-buf
 shape_of-buf c =

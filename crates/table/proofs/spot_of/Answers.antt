@@ -31,8 +31,8 @@ rows_before-k-requires c =
     let W : Rowed b = c.requires in
     let fits : 8 + 16 * length (rows_in b) ≤ length b = (holds b y W).fits in
     let used : number_from 0 (part b 0 8) ≡ 16 * length (rows_in b) = used-of b y W in
-    let n : c.be64.result / 16 ≡ length (rows_in (b)) = omega (arith, c.be64.ensures, used) in
-    record { reads = (W).reads; many = n; fits = omega (arith, fits) }
+    let n : c.be64.result / 16 ≡ length (rows_in b) = omega (arith, c.be64.ensures, used) in
+    record { reads = W.reads; many = n; fits = omega (arith, fits) }
 
 pub returns-then-n-k : goal.returns-then-n-k
 returns-then-n-k c =
@@ -40,8 +40,8 @@ returns-then-n-k c =
     let y : octets b ≡ true = octets-of b (λ i. omega (arith, c.type_inv.region i)) in
     let W : Rowed b = c.requires in
     let used : number_from 0 (part b 0 8) ≡ 16 * length (rows_in b) = used-of b y W in
-    let n : c.be64.result / 16 ≡ length (rows_in (b)) = omega (arith, c.be64.ensures, used) in
-    ap (Gap c.rows_before-k.result) n ∙ spot-gap c.args.t (rows_in (b)) (W).rise c.rows_before-k.result c.rows_before-k.ensures (λ l e. absurd (omega arith))
+    let n : c.be64.result / 16 ≡ length (rows_in b) = omega (arith, c.be64.ensures, used) in
+    ap (Gap c.rows_before-k.result) n ∙ spot-gap c.args.t (rows_in b) W.rise c.rows_before-k.result c.rows_before-k.ensures (λ l e. absurd (omega arith))
 
 pub be64-requires-2 : goal.be64-requires-2
 be64-requires-2 c =
@@ -67,11 +67,11 @@ returns-then-be64-t c =
     let y : octets b ≡ true = octets-of b (λ i. omega (arith, c.type_inv.region i)) in
     let W : Rowed b = c.requires in
     let used : number_from 0 (part b 0 8) ≡ 16 * length (rows_in b) = used-of b y W in
-    let n : c.be64.result / 16 ≡ length (rows_in (b)) = omega (arith, c.be64.ensures, used) in
-    let l : c.rows_before-k.result < length (rows_in (b)) = omega arith in
-    let R : Region (b) = ground (b) (y) (W) in
-    ap₂ (λ (i m : ℕ). Here c.rows_before-k.result i m) n (c.be64-then-be64-t.ensures ∙ count_at_lem (b) R c.rows_before-k.result l)
-    ∙ spot-here c.args.t (rows_in (b)) (W).rise c.rows_before-k.result c.rows_before-k.ensures l (sym (time-at (b) R c.rows_before-k.result l) ∙ sym c.be64-2.ensures ∙ c.if-be64-t.true)
+    let n : c.be64.result / 16 ≡ length (rows_in b) = omega (arith, c.be64.ensures, used) in
+    let l : c.rows_before-k.result < length (rows_in b) = omega arith in
+    let R : Region b = ground b y W in
+    ap₂ (λ (i m : ℕ). Here c.rows_before-k.result i m) n (c.be64-then-be64-t.ensures ∙ count_at_lem b R c.rows_before-k.result l)
+    ∙ spot-here c.args.t (rows_in b) W.rise c.rows_before-k.result c.rows_before-k.ensures l (sym (time-at b R c.rows_before-k.result l) ∙ sym c.be64-2.ensures ∙ c.if-be64-t.true)
 
 pub returns : goal.returns
 returns c =
@@ -79,5 +79,5 @@ returns c =
     let y : octets b ≡ true = octets-of b (λ i. omega (arith, c.type_inv.region i)) in
     let W : Rowed b = c.requires in
     let used : number_from 0 (part b 0 8) ≡ 16 * length (rows_in b) = used-of b y W in
-    let n : c.be64.result / 16 ≡ length (rows_in (b)) = omega (arith, c.be64.ensures, used) in
-    ap (Gap c.rows_before-k.result) n ∙ spot-gap c.args.t (rows_in (b)) (W).rise c.rows_before-k.result c.rows_before-k.ensures (λ l e. c.if-be64-t.false (c.be64-2.ensures ∙ time-at (b) (ground (b) (y) (W)) c.rows_before-k.result l ∙ e))
+    let n : c.be64.result / 16 ≡ length (rows_in b) = omega (arith, c.be64.ensures, used) in
+    ap (Gap c.rows_before-k.result) n ∙ spot-gap c.args.t (rows_in b) W.rise c.rows_before-k.result c.rows_before-k.ensures (λ l e. c.if-be64-t.false (c.be64-2.ensures ∙ time-at b (ground b y W) c.rows_before-k.result l ∙ e))

@@ -21,37 +21,37 @@ use Rattle.txn.proofs.put.Goals as goal
 pub put_own-requires : goal.put_own-requires
 put_own-requires c =
     let known : octets c.args.place.now ≡ true = octets-of c.args.place.now (λ i. omega (arith, c.slice_known-1.given i)) in
-    let inside : Held c.args.rooms c.args.place.now = held c.args.rooms c.args.place.now (known) c.requires.0 c.requires.1 in
+    let inside : Held c.args.rooms c.args.place.now = held c.args.rooms c.args.place.now known c.requires.0 c.requires.1 in
     let H = inside in
-    (omega arith, own_held_lem c.args.rooms c.args.place.now c.requires.0 H, own_room c.args.rooms c.args.place.now (known) c.requires.0 c.well_formed.0.0 H c.args.key.now c.args.value.now c.requires.2 c.requires.3 c.requires.5)
+    (omega arith, own_held_lem c.args.rooms c.args.place.now c.requires.0 H, own_room c.args.rooms c.args.place.now known c.requires.0 c.well_formed.0.0 H c.args.key.now c.args.value.now c.requires.2 c.requires.3 c.requires.5)
 
 pub add_hash-requires : goal.add_hash-requires
 add_hash-requires c =
     let known : octets c.args.place.now ≡ true = octets-of c.args.place.now (λ i. omega (arith, c.slice_known-1.given i)) in
-    let inside : Held c.args.rooms c.args.place.now = held c.args.rooms c.args.place.now (known) c.requires.0 c.requires.1 in
+    let inside : Held c.args.rooms c.args.place.now = held c.args.rooms c.args.place.now known c.requires.0 c.requires.1 in
     let room : set_fits c.args.rooms.writes (set_add true c.args.hash (txn_in c.args.rooms c.args.place.now).writes) ≡ true = ap (λ (b : Bool). set_fits c.args.rooms.writes (set_add b c.args.hash (txn_in c.args.rooms c.args.place.now).writes)) (sym c.if-serializable.true) ∙ c.requires.6 in
     let H = inside in
     let m = sym c.writes_at.ensures in
-    let l = same-long c.args.rooms c.args.place.now (known) c.requires.0 c.well_formed.0.0 H c.args.key.now c.args.value.now c.requires.2 c.requires.3 c.requires.5 c.put_own.new.place c.put_own.ensures in (
+    let l = same-long c.args.rooms c.args.place.now known c.requires.0 c.well_formed.0.0 H c.args.key.now c.args.value.now c.requires.2 c.requires.3 c.requires.5 c.put_own.new.place c.put_own.ensures in (
       omega (arith, l, c.writes_at.ensures),
-      subst (λ (n : ℕ). set_held c.put_own.new.place n ≡ true) m (write-held c.args.rooms c.args.place.now (known) c.requires.0 c.well_formed.0.0 H c.args.key.now c.args.value.now c.requires.2 c.requires.3 c.requires.5 c.put_own.new.place c.put_own.ensures),
-      subst (λ (n : ℕ). n + 8 + 4 * length (insert compare c.args.hash (set_of c.put_own.new.place n)) ≤ length c.put_own.new.place) m (write-room c.args.rooms c.args.place.now (known) c.requires.0 c.well_formed.0.0 H c.args.key.now c.args.value.now c.requires.2 c.requires.3 c.requires.5 c.put_own.new.place c.put_own.ensures c.args.hash c.requires.4 (room)),
+      subst (λ (n : ℕ). set_held c.put_own.new.place n ≡ true) m (write-held c.args.rooms c.args.place.now known c.requires.0 c.well_formed.0.0 H c.args.key.now c.args.value.now c.requires.2 c.requires.3 c.requires.5 c.put_own.new.place c.put_own.ensures),
+      subst (λ (n : ℕ). n + 8 + 4 * length (insert compare c.args.hash (set_of c.put_own.new.place n)) ≤ length c.put_own.new.place) m (write-room c.args.rooms c.args.place.now known c.requires.0 c.well_formed.0.0 H c.args.key.now c.args.value.now c.requires.2 c.requires.3 c.requires.5 c.put_own.new.place c.put_own.ensures c.args.hash c.requires.4 room),
     )
 
 pub returns-then-serializable : goal.returns-then-serializable
 returns-then-serializable c =
     let known : octets c.args.place.now ≡ true = octets-of c.args.place.now (λ i. omega (arith, c.slice_known-1.given i)) in
-    let inside : Held c.args.rooms c.args.place.now = held c.args.rooms c.args.place.now (known) c.requires.0 c.requires.1 in
+    let inside : Held c.args.rooms c.args.place.now = held c.args.rooms c.args.place.now known c.requires.0 c.requires.1 in
     let room : set_fits c.args.rooms.writes (set_add true c.args.hash (txn_in c.args.rooms c.args.place.now).writes) ≡ true = ap (λ (b : Bool). set_fits c.args.rooms.writes (set_add b c.args.hash (txn_in c.args.rooms c.args.place.now).writes)) (sym c.if-serializable.true) ∙ c.requires.6 in
     let H = inside in
     c.add_hash.ensures ∙ ap (λ (n : ℕ). over c.put_own.new.place n (hashes_stream.put (insert compare c.args.hash (set_of c.put_own.new.place n)))) c.writes_at.ensures
-    ∙ put-added c.args.rooms c.args.place.now (known) c.requires.0 c.well_formed.0.0 H c.args.key.now c.args.value.now c.requires.2 c.requires.3 c.requires.5 c.put_own.new.place c.put_own.ensures c.args.hash c.requires.4 (room)
+    ∙ put-added c.args.rooms c.args.place.now known c.requires.0 c.well_formed.0.0 H c.args.key.now c.args.value.now c.requires.2 c.requires.3 c.requires.5 c.put_own.new.place c.put_own.ensures c.args.hash c.requires.4 room
     ∙ ap (λ (b : Bool). (place_of c.args.rooms).write (some (with_writes (insert cmp_pair (pair c.args.key.now c.args.value.now) (txn_in c.args.rooms c.args.place.now).own) (set_add b c.args.hash (txn_in c.args.rooms c.args.place.now).writes) (txn_in c.args.rooms c.args.place.now))) c.args.place.now) (sym c.if-serializable.true)
 
 pub returns-else-serializable : goal.returns-else-serializable
 returns-else-serializable c =
     let known : octets c.args.place.now ≡ true = octets-of c.args.place.now (λ i. omega (arith, c.slice_known-1.given i)) in
-    let inside : Held c.args.rooms c.args.place.now = held c.args.rooms c.args.place.now (known) c.requires.0 c.requires.1 in
+    let inside : Held c.args.rooms c.args.place.now = held c.args.rooms c.args.place.now known c.requires.0 c.requires.1 in
     let H = inside in
-    put-kept c.args.rooms c.args.place.now (known) c.requires.0 c.well_formed.0.0 H c.args.key.now c.args.value.now c.requires.2 c.requires.3 c.requires.5 c.put_own.new.place c.put_own.ensures c.args.hash c.requires.4
+    put-kept c.args.rooms c.args.place.now known c.requires.0 c.well_formed.0.0 H c.args.key.now c.args.value.now c.requires.2 c.requires.3 c.requires.5 c.put_own.new.place c.put_own.ensures c.args.hash c.requires.4
     ∙ ap (λ (b : Bool). (place_of c.args.rooms).write (some (with_writes (insert cmp_pair (pair c.args.key.now c.args.value.now) (txn_in c.args.rooms c.args.place.now).own) (set_add b c.args.hash (txn_in c.args.rooms c.args.place.now).writes) (txn_in c.args.rooms c.args.place.now))) c.args.place.now) (sym c.if-serializable.false)

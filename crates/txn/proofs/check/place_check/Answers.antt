@@ -18,13 +18,13 @@ use Rattle.txn.proofs.check.place_check.Goals as goal
 pub returns-then-handle-eq0 : goal.returns-then-handle-eq0
 returns-then-handle-eq0 c =
     let known : octets c.args.place.now ≡ true = octets-of c.args.place.now (λ i. omega (arith, c.type_inv.place i)) in
-    free-sound c.args.rooms c.args.serializable c.args.counter c.args.clock c.args.place.now (known) c.requires.0 (sym c.be64-handle.ensures ∙ c.if-handle-eq0.true)
+    free-sound c.args.rooms c.args.serializable c.args.counter c.args.clock c.args.place.now known c.requires.0 (sym c.be64-handle.ensures ∙ c.if-handle-eq0.true)
 
 pub returns-then-not-parts_check : goal.returns-then-not-parts_check
 returns-then-not-parts_check c =
     let known : octets c.args.place.now ≡ true = octets-of c.args.place.now (λ i. omega (arith, c.type_inv.place i)) in
     let taken : used_at c.args.place.now 0 ≡ 0 → ⊥ = λ z. c.if-handle-eq0.false (c.be64-handle.ensures ∙ z) in
-    parts-fail c.args.rooms c.args.serializable c.args.counter c.args.clock c.args.place.now (known) c.requires.0 (taken)
+    parts-fail c.args.rooms c.args.serializable c.args.counter c.args.clock c.args.place.now known c.requires.0 taken
     (ap (λ (n : ℕ). parts_sound (settings_of c.args.serializable c.args.rooms) n c.args.counter c.args.clock c.args.place.now) (sym c.be64-handle.ensures) ∙ sym c.parts_check.ensures ∙ not-true c.parts_check.result c.if-not-parts_check.true-raw)
 
 pub returns-then-not-serializable : goal.returns-then-not-serializable
@@ -33,7 +33,7 @@ returns-then-not-serializable c =
     let taken : used_at c.args.place.now 0 ≡ 0 → ⊥ = λ z. c.if-handle-eq0.false (c.be64-handle.ensures ∙ z) in
     let sound : parts_sound (settings_of c.args.serializable c.args.rooms) (used_at c.args.place.now 0) c.args.counter c.args.clock c.args.place.now ≡ true = ap (λ (n : ℕ). parts_sound (settings_of c.args.serializable c.args.rooms) n c.args.counter c.args.clock c.args.place.now) (sym c.be64-handle.ensures)
     ∙ sym c.parts_check.ensures ∙ not-false c.parts_check.result c.if-not-parts_check.false-raw in
-    other-sound c.args.rooms c.args.serializable c.args.counter c.args.clock c.args.place.now (known) c.requires.0 (taken) (sound) (not-true c.args.serializable c.if-not-serializable.true-raw)
+    other-sound c.args.rooms c.args.serializable c.args.counter c.args.clock c.args.place.now known c.requires.0 taken sound (not-true c.args.serializable c.if-not-serializable.true-raw)
 
 pub returns-then-be64-eq0 : goal.returns-then-be64-eq0
 returns-then-be64-eq0 c =
@@ -41,7 +41,7 @@ returns-then-be64-eq0 c =
     let taken : used_at c.args.place.now 0 ≡ 0 → ⊥ = λ z. c.if-handle-eq0.false (c.be64-handle.ensures ∙ z) in
     let sound : parts_sound (settings_of c.args.serializable c.args.rooms) (used_at c.args.place.now 0) c.args.counter c.args.clock c.args.place.now ≡ true = ap (λ (n : ℕ). parts_sound (settings_of c.args.serializable c.args.rooms) n c.args.counter c.args.clock c.args.place.now) (sym c.be64-handle.ensures)
     ∙ sym c.parts_check.ensures ∙ not-false c.parts_check.result c.if-not-parts_check.false-raw in
-    closed-sound c.args.rooms c.args.serializable c.args.counter c.args.clock c.args.place.now (known) c.requires.0 (taken) (sound) (sym c.be64.ensures ∙ c.if-be64-eq0.true)
+    closed-sound c.args.rooms c.args.serializable c.args.counter c.args.clock c.args.place.now known c.requires.0 taken sound (sym c.be64.ensures ∙ c.if-be64-eq0.true)
 
 pub overflow_add-end : goal.overflow_add-end
 overflow_add-end c =
@@ -49,7 +49,7 @@ overflow_add-end c =
     let taken : used_at c.args.place.now 0 ≡ 0 → ⊥ = λ z. c.if-handle-eq0.false (c.be64-handle.ensures ∙ z) in
     let sound : parts_sound (settings_of c.args.serializable c.args.rooms) (used_at c.args.place.now 0) c.args.counter c.args.clock c.args.place.now ≡ true = ap (λ (n : ℕ). parts_sound (settings_of c.args.serializable c.args.rooms) n c.args.counter c.args.clock c.args.place.now) (sym c.be64-handle.ensures)
     ∙ sym c.parts_check.ensures ∙ not-false c.parts_check.result c.if-not-parts_check.false-raw in
-    let m = to-match c.args.rooms c.args.serializable c.args.counter c.args.clock c.args.place.now (known) c.requires.0 (taken) (sound) in
+    let m = to-match c.args.rooms c.args.serializable c.args.counter c.args.clock c.args.place.now known c.requires.0 taken sound in
     omega (arith, m.0, c.used_at-end.ensures, c.requires.0)
 
 pub writes_match-requires : goal.writes_match-requires
@@ -58,7 +58,7 @@ writes_match-requires c =
     let taken : used_at c.args.place.now 0 ≡ 0 → ⊥ = λ z. c.if-handle-eq0.false (c.be64-handle.ensures ∙ z) in
     let sound : parts_sound (settings_of c.args.serializable c.args.rooms) (used_at c.args.place.now 0) c.args.counter c.args.clock c.args.place.now ≡ true = ap (λ (n : ℕ). parts_sound (settings_of c.args.serializable c.args.rooms) n c.args.counter c.args.clock c.args.place.now) (sym c.be64-handle.ensures)
     ∙ sym c.parts_check.ensures ∙ not-false c.parts_check.result c.if-not-parts_check.false-raw in
-    let m = to-match c.args.rooms c.args.serializable c.args.counter c.args.clock c.args.place.now (known) c.requires.0 (taken) (sound) in
+    let m = to-match c.args.rooms c.args.serializable c.args.counter c.args.clock c.args.place.now known c.requires.0 taken sound in
     let u : c.used_at-n.result ≡ used_at c.args.place.now (writes_at c.args.rooms) = c.used_at-n.ensures ∙ ap (used_at c.args.place.now) c.writes_at-writes.ensures in (
       omega arith,
       omega (arith, m.0, c.used_at-end.ensures, c.requires.0),
@@ -78,4 +78,4 @@ returns c =
     c.writes_match.ensures
     ∙ ap₂ (λ (i n : ℕ). same_numbers (hashes_in c.args.place.now (i + 8) (n / 4)) (own_hashes (own_in c.args.place.now own_start (own_start + c.used_at-end.result)))) c.writes_at-writes.ensures u
     ∙ ap (λ (n : ℕ). same_numbers (set_of c.args.place.now (writes_at c.args.rooms)) (own_hashes (own_in c.args.place.now own_start (own_start + n)))) c.used_at-end.ensures
-    ∙ open-sound c.args.rooms c.args.serializable c.args.counter c.args.clock c.args.place.now (known) c.requires.0 (taken) (sound) (not-false c.args.serializable c.if-not-serializable.false-raw) (λ z. c.if-be64-eq0.false (c.be64.ensures ∙ z))
+    ∙ open-sound c.args.rooms c.args.serializable c.args.counter c.args.clock c.args.place.now known c.requires.0 taken sound (not-false c.args.serializable c.if-not-serializable.false-raw) (λ z. c.if-be64-eq0.false (c.be64.ensures ∙ z))
