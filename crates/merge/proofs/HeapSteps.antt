@@ -8,7 +8,7 @@ use mathlib.Core.List.{List, [], ◌∷◌, head-eq_of_cons-eq}
 use Prim.Native.Nat.{ℕ, ◌+◌, ◌-◌, ◌≤◌, ◌<◌, compare}
 use lib.ListN.{length, take, get_or, length-take}
 use lib.Seq.{length-take-le}
-use Rattle.paper.specs.Lists.{then_by, is_lt, all, rises}
+use Rattle.paper.specs.Lists.{then_by, is_lt, rises}
 use Rattle.paper.specs.Keys.{Bytes, Version, cmp_version}
 use Rattle.paper.specs.Runs.{Run, is_run}
 use Rattle.raw.specs.Bytes.{part}

@@ -8,7 +8,7 @@ use mathlib.Core.List.{◌∷◌}
 use Prim.Native.Nat.{ℕ, ◌+◌, ◌-◌, ◌≤◌, ◌<◌}
 use borrow.Author.Tests.{le-leb, lt-leb}
 use lib.ListN.{length, drop}
-use Rattle.paper.specs.Keys.{Bytes, Version}
+use Rattle.paper.specs.Keys.{Bytes}
 use Rattle.paper.specs.Runs.{Run}
 use Rattle.paper.specs.Image.{number_from, one_record}
 use Rattle.raw.specs.Bytes.{part}

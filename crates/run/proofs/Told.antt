@@ -7,7 +7,6 @@ use lib.Dec.{eqb}
 use lib.ListN.{length, drop}
 use Rattle.paper.specs.Keys.{Bytes}
 use Rattle.paper.specs.Image.{verdict, good, broken}
-use Rattle.paper.specs.Store.{latest}
 use Rattle.raw.specs.Bytes.{part}
 use Rattle.key.specs.Versions.{versions}
 use Rattle.run.specs.Tallies.{tally_of}

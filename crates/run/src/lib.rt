@@ -1,5 +1,6 @@
 // Runs as bytes: one record at an offset, the verdict on a whole image, packed records counted, sought and written.
 #![tactic(auto)]
+
 pub mod record; // record.rt: one record at an offset, checked, and the order of versions at their places
 pub mod tally; // tally.rt: how many records there are, and their earliest and latest timestamps
 pub mod image; // image.rt: the check of packed records, and the verdict on an image

@@ -2,6 +2,7 @@
 // Both lie packed in one lent buffer, the active run's records from `at` to `end` and the own writes behind its room,
 // from `own` to `stop`.
 #![tactic(auto)]
+
 ghost use Rattle.std.specs.Prelude.{◌≡◌, true, [], ◌+◌, ◌-◌, ◌≤◌, leb, length};
 ghost use Rattle.paper.specs.Runs.{run_size};
 ghost use Rattle.paper.specs.Image.{record_bytes, records_bytes};

@@ -1,7 +1,6 @@
 use native.Mathlib.Omega.{arith}
 use Prim.Native.Nat.{ℕ, ◌+◌, ◌*◌, ◌-◌}
 use mathlib.Core.Path.{ap}
-use borrow.Author.Rules.{rules}
 use Rattle.raw.proofs.Octets.{octets-of}
 use Rattle.versions.proofs.Absorbing.{absorb-room, absorb-size, absorb-ready, absorb-done}
 use Rattle.versions.proofs.absorb.Goals as goal

@@ -1,8 +1,5 @@
-use native.Mathlib.Omega.{arith}
 use Prim.Native.Nat.{◌-◌}
-use Rattle.raw.proofs.Octets.{octets-of}
-use Rattle.versions.proofs.Entries.{entry-there}
-use Rattle.versions.proofs.Counting.{Counted, few-there, count-done, count-below, count_next}
+use Rattle.versions.proofs.Counting.{Counted}
 use Rattle.versions.proofs.count_own.Given as goal
 
 abbrev pub invariant-loop-next : goal.invariant-loop-next

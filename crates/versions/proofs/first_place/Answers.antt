@@ -1,5 +1,4 @@
 use native.Mathlib.Omega.{arith}
-use borrow.Author.Rules.{rules}
 use Rattle.raw.proofs.Octets.{octets-of}
 use Rattle.versions.proofs.Entries.{entry-there}
 use Rattle.versions.proofs.Splitting.{none-parted, parted}

@@ -1,5 +1,4 @@
 use native.Mathlib.Omega.{arith}
-use borrow.Author.Rules.{rules}
 use Rattle.raw.proofs.Octets.{octets-of}
 use Rattle.versions.proofs.Counting.{fits_not, fits-is}
 use Rattle.versions.proofs.fits.Goals as goal

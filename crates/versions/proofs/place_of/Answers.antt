@@ -1,7 +1,6 @@
 use mathlib.Core.List.{[]}
 use mathlib.Core.Path.{subst}
 use Prim.Native.Nat.{ℕ}
-use borrow.Author.Rules.{rules}
 use Rattle.overlay.specs.Overlay.{pair}
 use Rattle.overlay.specs.Entries.{span}
 use Rattle.run.specs.Seeking.{Sought}

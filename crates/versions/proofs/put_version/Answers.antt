@@ -1,5 +1,4 @@
 use native.Mathlib.Omega.{arith}
-use borrow.Author.Rules.{rules}
 use Rattle.raw.proofs.Octets.{octets-of}
 use Rattle.versions.proofs.Entries.{version-put}
 use Rattle.versions.proofs.put_version.Goals as goal

@@ -1,12 +1,11 @@
 use native.Mathlib.Omega.{arith}
-use Prim.Native.Nat.{◌-◌}
 use mathlib.Core.Path.{◌∙◌}
 use Rattle.paper.specs.Image.{records_bytes}
 use Rattle.raw.specs.Bytes.{over}
 use Rattle.raw.proofs.Octets.{octets-of}
 use Rattle.versions.specs.Absorbing.{absorbed}
 use Rattle.versions.proofs.Entries.{entry-there}
-use Rattle.versions.proofs.Weaving.{Weaving, weave-long, weave-start, weave-done, weave-fits, weave-ready, weave-next}
+use Rattle.versions.proofs.Weaving.{weave-long, weave-start, weave-done, weave-fits, weave-ready, weave-next}
 use Rattle.versions.proofs.weave.Goals as goal
 
 pub loop-next-init : goal.loop-next-init

@@ -1,12 +1,8 @@
-use native.Mathlib.Omega.{arith}
 use Prim.Native.Nat.{◌-◌}
-use mathlib.Core.Path.{◌∙◌}
 use Rattle.paper.specs.Image.{records_bytes}
 use Rattle.raw.specs.Bytes.{over}
-use Rattle.raw.proofs.Octets.{octets-of}
 use Rattle.versions.specs.Absorbing.{absorbed}
-use Rattle.versions.proofs.Entries.{entry-there}
-use Rattle.versions.proofs.Weaving.{Weaving, weave-long, weave-start, weave-done, weave-fits, weave-ready, weave-next}
+use Rattle.versions.proofs.Weaving.{Weaving}
 use Rattle.versions.proofs.weave.Given as goal
 
 abbrev pub invariant-loop-next : goal.invariant-loop-next

@@ -1,7 +1,6 @@
-use Prim.Native.Nat.{ℕ, ◌≤◌, ◌-◌}
+use Prim.Native.Nat.{ℕ}
 use mathlib.Core.Path.{ap, ◌∙◌, ◌≡◌, refl}
 use Rattle.merge.proofs.Building.{gathered-on}
-use Rattle.merge.specs.Unread.{cursors_of}
 use Rattle.merge.specs.Cursors.{unfinished}
 use Rattle.paper.specs.Lists.{keep}
 use lib.ListN.{length, take}

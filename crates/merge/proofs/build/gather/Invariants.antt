@@ -1,11 +1,9 @@
-use Prim.Native.Nat.{ℕ, ◌≤◌, ◌-◌}
-use mathlib.Core.Path.{ap, ◌∙◌, ◌≡◌, refl}
-use Rattle.merge.proofs.Building.{gathered-on}
+use Prim.Native.Nat.{◌≤◌, ◌-◌}
+use mathlib.Core.Path.{◌≡◌}
 use Rattle.merge.specs.Unread.{cursors_of}
 use Rattle.merge.specs.Cursors.{unfinished}
 use Rattle.paper.specs.Lists.{keep}
 use lib.ListN.{length, take}
-use native.Mathlib.Omega.{arith}
 use Rattle.merge.proofs.build.gather.Given as goal
 
 abbrev pub invariant-loop-i : goal.invariant-loop-i

@@ -4,7 +4,6 @@ use Rattle.paper.specs.Lists.{all}
 use lib.ListN.{length-take, take}
 use mathlib.Core.Path.{ap, ◌∙◌}
 use native.Mathlib.Omega.{arith}
-use borrow.Author.Rules.{rules}
 use Rattle.merge.proofs.build.heap_of.Goals as goal
 
 pub heapify-requires : goal.heapify-requires

@@ -4,10 +4,8 @@ use Rattle.merge.specs.Shape.{HeapFrom}
 use Rattle.merge.specs.Bag.{SameBag}
 use Rattle.merge.specs.Cursors.{bef, nowhere, live}
 use Rattle.merge.specs.Unread.{cursors_of}
-use Rattle.paper.specs.Lists.{all}
 use lib.ListN.{take}
-use Prim.Native.Nat.{ℕ, ◌≤◌, ◌+◌, ◌-◌}
-use mathlib.Core.Bool.{true}
+use Prim.Native.Nat.{ℕ, ◌+◌, ◌-◌}
 use mathlib.Core.Path.{◌≡◌, refl, sym, ◌∙◌, subst}
 use native.Mathlib.Omega.{arith}
 use Rattle.merge.proofs.build.heapify.Goals as goal

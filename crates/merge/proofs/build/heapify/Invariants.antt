@@ -1,15 +1,11 @@
-use Rattle.merge.proofs.Weights.{all-bag}
-use Rattle.merge.proofs.HeapLaws.{one_more, bag-refl, bag-trans}
 use Rattle.merge.specs.Shape.{HeapFrom}
 use Rattle.merge.specs.Bag.{SameBag}
 use Rattle.merge.specs.Cursors.{bef, nowhere, live}
 use Rattle.merge.specs.Unread.{cursors_of}
 use Rattle.paper.specs.Lists.{all}
-use lib.ListN.{take}
-use Prim.Native.Nat.{ℕ, ◌≤◌, ◌+◌, ◌-◌}
+use Prim.Native.Nat.{◌≤◌}
 use mathlib.Core.Bool.{true}
-use mathlib.Core.Path.{◌≡◌, refl, sym, ◌∙◌, subst}
-use native.Mathlib.Omega.{arith}
+use mathlib.Core.Path.{◌≡◌}
 use Rattle.merge.proofs.build.heapify.Given as goal
 
 abbrev pub invariant-loop-k : goal.invariant-loop-k

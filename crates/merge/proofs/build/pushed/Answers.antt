@@ -1,8 +1,7 @@
 use Rattle.merge.proofs.Building.{pushed-yes, pushed-no}
-use lib.ListN.{length, length-map}
+use lib.ListN.{length}
 use mathlib.Core.Path.{◌≡◌}
 use native.Mathlib.Omega.{arith}
-use borrow.Author.Rules.{rules}
 use Rattle.merge.proofs.build.pushed.Goals as goal
 
 pub returns-then-c : goal.returns-then-c

@@ -5,7 +5,6 @@ use Rattle.raw.specs.Orders.{ordering}
 use Rattle.paper.specs.Lists.{then_by, is_lt}
 use Prim.Native.Nat.{compare}
 use mathlib.Core.Path.{sym, ap, ◌∙◌}
-use borrow.Author.Rules.{rules}
 use Rattle.merge.proofs.heap.before.Goals as goal
 
 pub compare_versions-requires : goal.compare_versions-requires

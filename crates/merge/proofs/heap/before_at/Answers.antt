@@ -1,10 +1,9 @@
 -- Both cursors are live, being among those of the heap.
 use Rattle.merge.proofs.Weights.{all-at}
 use Rattle.merge.specs.Cursors.{nowhere, live}
-use lib.ListN.{length, length-map}
+use lib.ListN.{length}
 use native.Mathlib.Omega.{arith}
 use mathlib.Core.Path.{◌≡◌}
-use borrow.Author.Rules.{rules}
 use Rattle.merge.proofs.heap.before_at.Goals as goal
 
 pub before-requires : goal.before-requires

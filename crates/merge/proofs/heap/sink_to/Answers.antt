@@ -5,7 +5,6 @@ use Rattle.merge.specs.Cursors.{bef, nowhere}
 use native.Mathlib.Omega.{arith}
 use mathlib.Core.Path.{sym, ◌∙◌}
 use Prim.Native.Nat.{◌+◌, ◌*◌}
-use borrow.Author.Rules.{rules}
 use Rattle.merge.proofs.heap.sink_to.Goals as goal
 
 pub returns-then-len-left : goal.returns-then-len-left

@@ -2,11 +2,10 @@ use Rattle.merge.proofs.Weights.{all-at}
 use Rattle.merge.proofs.HeapLaws.{right-first, left-first, left-only}
 use Rattle.merge.proofs.Rank.{le_refl, le_trans, bef-le}
 use Rattle.merge.specs.Cursors.{bef, nowhere, live}
-use lib.ListN.{length, length-map}
+use lib.ListN.{length}
 use native.Mathlib.Omega.{arith}
 use mathlib.Core.Path.{◌≡◌, sym, ◌∙◌}
 use Prim.Native.Nat.{◌+◌, ◌*◌}
-use borrow.Author.Rules.{rules}
 use Rattle.merge.proofs.heap.smaller.Goals as goal
 
 pub before-requires : goal.before-requires

@@ -6,7 +6,6 @@ use Rattle.merge.specs.Cursors.{bef, nowhere}
 use Prim.Native.Nat.{◌-◌}
 use lib.ListN.{get_or, set, length-set}
 use native.Mathlib.Omega.{arith}
-use borrow.Author.Rules.{rules}
 use Rattle.merge.proofs.step.advanced.Goals as goal
 
 pub version_at-p-requires : goal.version_at-p-requires

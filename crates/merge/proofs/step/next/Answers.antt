@@ -1,5 +1,4 @@
-use Rattle.merge.proofs.Passing.{Passing, passing-start, passing-on, passing-end, has-cursor}
-use Rattle.merge.specs.Steps.{bytes_left}
+use Rattle.merge.proofs.Passing.{passing-start, passing-on, passing-end, has-cursor}
 use mathlib.Core.Path.{sym, ◌∙◌}
 use Rattle.merge.proofs.step.next.Goals as goal
 

@@ -1,6 +1,5 @@
-use Rattle.merge.proofs.Passing.{Passing, passing-start, passing-on, passing-end, has-cursor}
+use Rattle.merge.proofs.Passing.{Passing}
 use Rattle.merge.specs.Steps.{bytes_left}
-use mathlib.Core.Path.{sym, ◌∙◌}
 use Rattle.merge.proofs.step.next.Given as goal
 
 abbrev pub invariant-loop-h : goal.invariant-loop-h

@@ -9,7 +9,6 @@ use native.Mathlib.Omega.{arith}
 use Prim.Native.Nat.{Ordering}
 use mathlib.Core.Bool.{Bool, ◌&&◌}
 use mathlib.Core.Path.{sym, ap, ap₂, ◌∙◌}
-use borrow.Author.Rules.{rules}
 use Rattle.merge.proofs.step.same_least.Goals as goal
 
 pub returns-then-g-eq0 : goal.returns-then-g-eq0

@@ -1,5 +1,4 @@
 use Rattle.merge.proofs.HeapSteps.{settled}
-use borrow.Author.Rules.{rules}
 use Rattle.merge.proofs.step.step_root.Goals as goal
 
 pub returns : goal.returns

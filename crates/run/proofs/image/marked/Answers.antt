@@ -13,7 +13,6 @@ use Rattle.run.specs.declared.image.Checked.{Checked}
 use Rattle.run.specs.declared.image.Checked.TheVariants.{Run}
 use Rattle.run.proofs.Judging.{whole_of, marked-long, verdict-cut, verdict-foreign, verdict-headless, verdict-records}
 use Rattle.run.proofs.Told.{Says, says, told-wrong, told-miscounted, told-good}
-use borrow.Author.Rules.{rules}
 use Rattle.run.proofs.image.marked.Goals as goal
 
 pub returns-then-n-lt5 : goal.returns-then-n-lt5

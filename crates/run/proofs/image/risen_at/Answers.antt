@@ -6,7 +6,6 @@ use Rattle.key.specs.Places.{version_in}
 use Rattle.run.specs.Records.{Recorded, Within}
 use Rattle.run.specs.declared.record.Record.{Record}
 use Rattle.run.proofs.Checking.{at_place, risen-cut, risen-not}
-use borrow.Author.Rules.{rules}
 use Rattle.run.proofs.image.risen_at.Goals as goal
 
 pub slice_bounds-is_before-count : goal.slice_bounds-is_before-count

@@ -7,7 +7,6 @@ use Rattle.paper.proofs.KeyOrder.{key-eq}
 use Rattle.raw.specs.Orders.{ordering}
 use Rattle.run.specs.Checks.{told}
 use Rattle.run.proofs.Judging.{verdict-short, verdict-unmarked}
-use borrow.Author.Rules.{rules}
 use Rattle.run.proofs.image.verdict.Goals as goal
 
 pub returns-then-n-lt3 : goal.returns-then-n-lt3

@@ -1,7 +1,6 @@
 use mathlib.Core.Path.{sym, ap, ◌∙◌}
 use lib.ListN.{length}
 use Rattle.run.specs.Stepping.{behind, after_at}
-use borrow.Author.Rules.{rules}
 use Rattle.run.proofs.reader.after_at.Goals as goal
 
 pub returns-in-Version : goal.returns-in-Version

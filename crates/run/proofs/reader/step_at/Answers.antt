@@ -3,7 +3,6 @@ use lib.ListN.{length}
 use Rattle.run.specs.Records.{Recorded}
 use Rattle.run.specs.declared.record.Record.{Record}
 use Rattle.run.proofs.Stepping.{step_end, step_cut, step-version}
-use borrow.Author.Rules.{rules}
 use Rattle.run.proofs.reader.step_at.Goals as goal
 
 pub returns-then-n-at : goal.returns-then-n-at

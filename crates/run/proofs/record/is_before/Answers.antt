@@ -4,7 +4,6 @@ use Rattle.raw.specs.Orders.{ordering}
 use Rattle.raw.proofs.Comparing.{less-than}
 use Rattle.key.specs.Places.{version_in}
 use Rattle.run.proofs.Checking.{by_order}
-use borrow.Author.Rules.{rules}
 use Rattle.run.proofs.record.is_before.Goals as goal
 
 pub returns-in-Less : goal.returns-in-Less

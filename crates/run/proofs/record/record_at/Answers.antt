@@ -1,6 +1,5 @@
 use native.Mathlib.Omega.{arith}
 use Rattle.run.proofs.Recording.{cut_short, cut-key, cut-value, within, value_there}
-use borrow.Author.Rules.{rules}
 use Rattle.run.proofs.record.record_at.Goals as goal
 
 pub returns-then-end-at-lt12 : goal.returns-then-end-at-lt12

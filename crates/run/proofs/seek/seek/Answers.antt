@@ -1,11 +1,9 @@
-use borrow.Author.Tests.{not-true, not-false}
-use Prim.Native.Nat.{◌-◌}
 use mathlib.Core.Path.{sym, ◌∙◌}
 use native.Mathlib.Omega.{arith}
 use Rattle.key.specs.Stamps.{stamped}
 use Rattle.key.proofs.Packed.{record-there}
 use Rattle.run.proofs.Checking.{further}
-use Rattle.run.proofs.Seeking.{Passing, seek-start, seek-end, seek-next, seek_stop}
+use Rattle.run.proofs.Seeking.{seek-start, seek-end, seek-next, seek_stop}
 use Rattle.run.proofs.seek.seek.Goals as goal
 
 pub loop-at-init : goal.loop-at-init
@@ -22,7 +20,7 @@ is_before-requires c =
 
 pub returns-then-not-is_before : goal.returns-then-not-is_before
 returns-then-not-is_before c =
-    seek_stop c.args.s.now c.args.from c.args.end (stamped c.args.key.now c.args.stamp) c.requires.1 c.loop-at.at c.loop-at.invariant c.loop-at-test.true c.version_at-p.result c.version_at-p.ensures (sym c.is_before.ensures ∙ not-true c.is_before.result c.if-not-is_before.true-raw)
+    seek_stop c.args.s.now c.args.from c.args.end (stamped c.args.key.now c.args.stamp) c.requires.1 c.loop-at.at c.loop-at.invariant c.loop-at-test.true c.version_at-p.result c.version_at-p.ensures (sym c.is_before.ensures ∙ c.if-not-is_before.true)
 
 pub loop-at-smaller : goal.loop-at-smaller
 loop-at-smaller c =
@@ -30,7 +28,7 @@ loop-at-smaller c =
 
 pub loop-at-preserved : goal.loop-at-preserved
 loop-at-preserved c =
-    seek-next c.args.s.now c.args.from c.args.end (stamped c.args.key.now c.args.stamp) c.requires.1 c.loop-at.at c.loop-at.invariant c.loop-at-test.true c.version_at-p.result c.version_at-p.ensures (sym c.is_before.ensures ∙ not-false c.is_before.result c.if-not-is_before.false-raw)
+    seek-next c.args.s.now c.args.from c.args.end (stamped c.args.key.now c.args.stamp) c.requires.1 c.loop-at.at c.loop-at.invariant c.loop-at-test.true c.version_at-p.result c.version_at-p.ensures (sym c.is_before.ensures ∙ c.if-not-is_before.false)
 
 pub returns : goal.returns
 returns c =

@@ -1,11 +1,6 @@
-use borrow.Author.Tests.{not-true, not-false}
 use Prim.Native.Nat.{◌-◌}
-use mathlib.Core.Path.{sym, ◌∙◌}
-use native.Mathlib.Omega.{arith}
 use Rattle.key.specs.Stamps.{stamped}
-use Rattle.key.proofs.Packed.{record-there}
-use Rattle.run.proofs.Checking.{further}
-use Rattle.run.proofs.Seeking.{Passing, seek-start, seek-end, seek-next, seek_stop}
+use Rattle.run.proofs.Seeking.{Passing}
 use Rattle.run.proofs.seek.seek.Given as goal
 
 abbrev pub invariant-loop-at : goal.invariant-loop-at

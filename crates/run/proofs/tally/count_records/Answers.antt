@@ -1,7 +1,6 @@
 use mathlib.Core.Path.{ap}
 use Rattle.run.specs.Tallies.{tally_of}
 use Rattle.run.specs.declared.tally.Tally.{Tally}
-use borrow.Author.Rules.{rules}
 use Rattle.run.proofs.tally.count_records.Goals as goal
 
 pub returns : goal.returns

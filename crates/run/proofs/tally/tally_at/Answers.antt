@@ -1,8 +1,7 @@
-use Prim.Native.Nat.{◌-◌}
 use native.Mathlib.Omega.{arith}
 use Rattle.key.proofs.Packed.{record-there}
 use Rattle.run.proofs.Checking.{further}
-use Rattle.run.proofs.Tallying.{Tallied, tally-start, tally-done, tally-fits, tally-next}
+use Rattle.run.proofs.Tallying.{tally-start, tally-done, tally-fits, tally-next}
 use Rattle.run.proofs.tally.tally_at.Goals as goal
 
 pub loop-i-init : goal.loop-i-init

@@ -1,8 +1,5 @@
 use Prim.Native.Nat.{◌-◌}
-use native.Mathlib.Omega.{arith}
-use Rattle.key.proofs.Packed.{record-there}
-use Rattle.run.proofs.Checking.{further}
-use Rattle.run.proofs.Tallying.{Tallied, tally-start, tally-done, tally-fits, tally-next}
+use Rattle.run.proofs.Tallying.{Tallied}
 use Rattle.run.proofs.tally.tally_at.Given as goal
 
 abbrev pub invariant-loop-i : goal.invariant-loop-i

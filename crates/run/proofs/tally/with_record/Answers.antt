@@ -1,7 +1,6 @@
 use mathlib.Core.Path.{ap₂}
 use Prim.Native.Nat.{◌+◌}
 use Rattle.run.specs.declared.tally.Tally.{Tally}
-use borrow.Author.Rules.{rules}
 use Rattle.run.proofs.tally.with_record.Goals as goal
 
 pub returns : goal.returns

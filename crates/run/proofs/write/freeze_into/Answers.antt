@@ -5,7 +5,6 @@ use Rattle.paper.specs.Keys.{Bytes}
 use Rattle.raw.specs.Bytes.{part, over}
 use Rattle.run.specs.Writing.{head_bytes}
 use Rattle.run.proofs.Writing.{frozen}
-use borrow.Author.Rules.{rules}
 use Rattle.run.proofs.write.freeze_into.Goals as goal
 
 pub returns : goal.returns

@@ -4,7 +4,6 @@ use Prim.Native.Nat.{◌+◌}
 use Rattle.paper.specs.Keys.{Bytes}
 use Rattle.raw.specs.Bytes.{over}
 use Rattle.run.proofs.Writing.{put-field}
-use borrow.Author.Rules.{rules}
 use Rattle.run.proofs.write.put_field.Goals as goal
 
 pub returns : goal.returns

@@ -5,7 +5,6 @@ use Rattle.paper.specs.Keys.{Bytes}
 use Rattle.paper.specs.Image.{big_endian, format_version}
 use Rattle.raw.specs.Bytes.{over}
 use Rattle.run.proofs.Writing.{put-head}
-use borrow.Author.Rules.{rules}
 use Rattle.run.proofs.write.put_head.Goals as goal
 
 pub returns : goal.returns

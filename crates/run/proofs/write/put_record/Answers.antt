@@ -7,7 +7,6 @@ use Rattle.paper.specs.Image.{big_endian}
 use Rattle.raw.specs.Bytes.{over}
 use Rattle.run.specs.Writing.{field_bytes}
 use Rattle.run.proofs.Writing.{put_record}
-use borrow.Author.Rules.{rules}
 use Rattle.run.proofs.write.put_record.Goals as goal
 
 pub returns : goal.returns
