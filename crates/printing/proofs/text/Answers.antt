@@ -3,7 +3,6 @@ use lib.ListN.{length-take}
 use lib.Seq.{length-take-le}
 use mathlib.Core.Path.{sym}
 use native.Mathlib.Omega.{arith}
-use borrow.Author.Rules.{rules}
 use Rattle.printing.proofs.text.Goals as goal
 
 pub returns-then-out-at : goal.returns-then-out-at
@@ -17,4 +16,4 @@ copy_at-requires c = omega (arith, c.lesser-n.ensures, length-take c.lesser-n.re
 
 pub returns : goal.returns
 returns c =
-    shown-copied c.args.out.now c.args.at c.copy_at.new.0 c.args.x.now c.lesser-n.result c.lesser-n.ensures c.copy_at.ensures
+    shown-copied c.args.out.now c.args.at c.copy_at.new.s c.args.x.now c.lesser-n.result c.lesser-n.ensures c.copy_at.ensures
