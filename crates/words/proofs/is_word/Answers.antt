@@ -1,7 +1,6 @@
 -- The length first; then the bytes before i are letters or digits.
 use Rattle.words.proofs.Letters.{letters-on, letters-stop, letters-end, word-empty, word-long, word-is}
 use mathlib.Core.Path.{sym, ◌∙◌}
-use borrow.Author.Tests.{not-true, not-false}
 use Rattle.words.proofs.is_word.Goals as goal
 
 pub returns-then-s-eq0 : goal.returns-then-s-eq0
