@@ -8,10 +8,10 @@ use lib.ListN.{length}
 use Rattle.paper.specs.Lists.{all, total}
 use Rattle.paper.specs.Keys.{Bytes, octets}
 use Rattle.paper.specs.Settings.{Settings}
-use Rattle.paper.specs.Calls.{Reply, done, refused, Call, opening, called, reply_number, value_out, key_out}
+use Rattle.paper.specs.Calls.{Reply, done, Call, opening, called, reply_number, value_out, key_out}
 use Rattle.layout.specs.Layout.{store_in, on_bytes}
 use Rattle.layout.specs.Runs.{run_on, lent}
-use Rattle.reply.specs.Told.{Told, nothing, told}
+use Rattle.reply.specs.Told.{Told, nothing}
 use Rattle.reply.specs.OnBytes.{told_on, value_on, key_on}
 use Rattle.reply.specs.Read.{reply_read}
 use Rattle.reply.proofs.Reading.{reply-read, bytes_left, told-done}

@@ -1,5 +1,6 @@
 // Output lines in a lent buffer: texts and decimal numbers, one behind the other. What does not fit is left out, so that no function here asks for room.
 #![tactic(auto)]
+
 ghost use Rattle.std.specs.Prelude.{◌≡◌, ◌∷◌, ℕ, min};
 ghost use Rattle.paper.specs.Keys.{Bytes};
 ghost use Rattle.paper.specs.Replay.{decimal_of};

@@ -1,5 +1,6 @@
 // A line of a script, understood: which command it is, and where its key and value stand.
 #![tactic(auto)]
+
 ghost use Rattle.std.specs.Prelude.{◌≡◌, [], ◌∷◌, suc, ◌+◌, ◌-◌, ◌≤◌, ◌<◌, length, drop};
 ghost use Rattle.std.proofs.Math.Option.{some};
 ghost use Rattle.paper.specs.Replay.{pieces, is_letter_or_digit, no_leading_zero, is_word, is, line_call};

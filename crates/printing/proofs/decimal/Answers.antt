@@ -1,9 +1,8 @@
-use Rattle.printing.proofs.Digits.{Made, made-start, room-before, made-turn, made-last}
+use Rattle.printing.proofs.Digits.{made-start, room-before, made-turn, made-last}
 use Rattle.printing.specs.Shown.{shown}
 use lib.ListN.{length-set}
 use mathlib.Core.Path.{refl, ap, ◌∙◌}
 use native.Mathlib.Omega.{arith}
-use borrow.Author.Rules.{rules}
 use Rattle.printing.proofs.decimal.Goals as goal
 
 pub loop-rest-init : goal.loop-rest-init

@@ -1,9 +1,4 @@
-use Rattle.printing.proofs.Digits.{Made, made-start, room-before, made-turn, made-last}
-use Rattle.printing.specs.Shown.{shown}
-use lib.ListN.{length-set}
-use mathlib.Core.Path.{refl, ap, ◌∙◌}
-use native.Mathlib.Omega.{arith}
-use borrow.Author.Rules.{rules}
+use Rattle.printing.proofs.Digits.{Made}
 use Rattle.printing.proofs.decimal.Given as goal
 
 abbrev pub invariant-loop-rest : goal.invariant-loop-rest

@@ -1,7 +1,6 @@
 use Rattle.printing.proofs.Showing.{shown-then}
 use Rattle.paper.specs.Replay.{decimal_of}
 use mathlib.Core.List.{[], ◌∷◌}
-use borrow.Author.Rules.{rules}
 use Rattle.printing.proofs.number.Goals as goal
 
 pub returns : goal.returns

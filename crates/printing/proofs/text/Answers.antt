@@ -3,7 +3,6 @@ use lib.ListN.{length-take}
 use lib.Seq.{length-take-le}
 use mathlib.Core.Path.{sym}
 use native.Mathlib.Omega.{arith}
-use borrow.Author.Rules.{rules}
 use Rattle.printing.proofs.text.Goals as goal
 
 pub returns-then-out-at : goal.returns-then-out-at

@@ -1,6 +1,5 @@
 use Rattle.printing.proofs.Showing.{shown-then}
 use mathlib.Core.List.{[], ◌∷◌}
-use borrow.Author.Rules.{rules}
 use Rattle.printing.proofs.word.Goals as goal
 
 pub returns : goal.returns

@@ -2,7 +2,6 @@
 use Rattle.words.proofs.Calls.{one_b, one-z, one_none}
 use mathlib.Core.Path.{sym}
 use Rattle.words.specs.Commands.{call_of}
-use borrow.Author.Rules.{rules}
 use Rattle.words.proofs.alone.Goals as goal
 
 pub returns-then-line-eq98 : goal.returns-then-line-eq98

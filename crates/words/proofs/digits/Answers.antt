@@ -1,10 +1,6 @@
 -- The digits before i make n, which fits; what is left goes on from it.
 use Rattle.words.proofs.Handles.{digits_low, digits-high, digits-many, digits-on, digits-end}
-use Rattle.words.specs.Fields.{digits_from}
-use Rattle.paper.specs.Settings.{most_number}
-use Prim.Native.Nat.{◌-◌, ◌≤◌}
-use mathlib.Core.Path.{◌≡◌, refl, sym, ◌∙◌}
-use lib.ListN.{length, drop}
+use mathlib.Core.Path.{refl, sym, ◌∙◌}
 use native.Mathlib.Omega.{arith}
 use Rattle.words.proofs.digits.Goals as goal
 

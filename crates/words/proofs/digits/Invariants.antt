@@ -1,11 +1,9 @@
 -- The digits before i make n, which fits; what is left goes on from it.
-use Rattle.words.proofs.Handles.{digits_low, digits-high, digits-many, digits-on, digits-end}
 use Rattle.words.specs.Fields.{digits_from}
 use Rattle.paper.specs.Settings.{most_number}
 use Prim.Native.Nat.{◌-◌, ◌≤◌}
-use mathlib.Core.Path.{◌≡◌, refl, sym, ◌∙◌}
+use mathlib.Core.Path.{◌≡◌}
 use lib.ListN.{length, drop}
-use native.Mathlib.Omega.{arith}
 use Rattle.words.proofs.digits.Given as goal
 
 abbrev pub invariant-loop-i : goal.invariant-loop-i

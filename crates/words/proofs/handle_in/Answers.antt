@@ -1,7 +1,6 @@
 -- A field without a leading zero is what its digits make.
 use Rattle.words.proofs.Handles.{handle-led, handle-not-led}
 use mathlib.Core.Path.{sym, ◌∙◌}
-use borrow.Author.Rules.{rules}
 use Rattle.words.proofs.handle_in.Goals as goal
 
 pub returns-then-leads_well : goal.returns-then-leads_well

@@ -1,7 +1,6 @@
 -- One byte, and then which.
 use Rattle.words.proofs.Letters.{is_at, is-not-one}
 use mathlib.Core.Path.{sym}
-use borrow.Author.Rules.{rules}
 use Rattle.words.proofs.is_dash.Goals as goal
 
 pub returns-then-s-ne1 : goal.returns-then-s-ne1

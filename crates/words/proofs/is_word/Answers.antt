@@ -1,13 +1,6 @@
 -- The length first; then the bytes before i are letters or digits.
 use Rattle.words.proofs.Letters.{letters-on, letters-stop, letters-end, word-empty, word-long, word-is}
-use Rattle.paper.specs.Lists.{all}
-use Rattle.paper.specs.Replay.{is_letter_or_digit}
-use Prim.Native.Nat.{◌-◌}
-use mathlib.Core.Path.{◌≡◌, refl, sym, ◌∙◌}
-use borrow.Author.Tests.{not-true, not-false}
-use borrow.Author.Rules.{rules}
-use lib.ListN.{length, drop}
-use native.Mathlib.Omega.{arith}
+use mathlib.Core.Path.{sym, ◌∙◌}
 use Rattle.words.proofs.is_word.Goals as goal
 
 pub returns-then-s-eq0 : goal.returns-then-s-eq0
@@ -18,11 +11,11 @@ returns-then-s-gt16 c = word-long _ c.if-s-gt16.true
 
 pub returns-then-not-is_letter_or_digit : goal.returns-then-not-is_letter_or_digit
 returns-then-not-is_letter_or_digit c =
-    sym (letters-stop _ _ c.loop-i-test.true (sym c.is_letter_or_digit.ensures ∙ not-true _ c.if-not-is_letter_or_digit.true-raw)) ∙ sym c.loop-i.invariant ∙ word-is _ c.if-s-eq0.false c.if-s-gt16.false
+    sym (letters-stop _ _ c.loop-i-test.true (sym c.is_letter_or_digit.ensures ∙ c.if-not-is_letter_or_digit.true)) ∙ sym c.loop-i.invariant ∙ word-is _ c.if-s-eq0.false c.if-s-gt16.false
 
 pub loop-i-preserved : goal.loop-i-preserved
 loop-i-preserved c =
-    c.loop-i.invariant ∙ letters-on _ _ c.loop-i-test.true (sym c.is_letter_or_digit.ensures ∙ not-false _ c.if-not-is_letter_or_digit.false-raw)
+    c.loop-i.invariant ∙ letters-on _ _ c.loop-i-test.true (sym c.is_letter_or_digit.ensures ∙ c.if-not-is_letter_or_digit.false)
 
 pub returns : goal.returns
 returns c =

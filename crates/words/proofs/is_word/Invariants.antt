@@ -1,13 +1,9 @@
 -- The length first; then the bytes before i are letters or digits.
-use Rattle.words.proofs.Letters.{letters-on, letters-stop, letters-end, word-empty, word-long, word-is}
 use Rattle.paper.specs.Lists.{all}
 use Rattle.paper.specs.Replay.{is_letter_or_digit}
 use Prim.Native.Nat.{◌-◌}
-use mathlib.Core.Path.{◌≡◌, refl, sym, ◌∙◌}
-use borrow.Author.Tests.{not-true, not-false}
-use borrow.Author.Rules.{rules}
+use mathlib.Core.Path.{◌≡◌}
 use lib.ListN.{length, drop}
-use native.Mathlib.Omega.{arith}
 use Rattle.words.proofs.is_word.Given as goal
 
 abbrev pub invariant-loop-i : goal.invariant-loop-i

@@ -1,6 +1,5 @@
 -- By the number of bytes, and then the first.
 use Rattle.words.proofs.Handles.{lead-empty, lead-one, lead_zero, lead-other}
-use borrow.Author.Rules.{rules}
 use Rattle.words.proofs.leads_well.Goals as goal
 
 pub returns-then-s-eq0 : goal.returns-then-s-eq0

@@ -1,10 +1,5 @@
 -- No separator stands between `at` and i.
 use Rattle.words.proofs.Pieces.{end-hit, end_on, end-past}
-use Rattle.words.specs.Fields.{up_to}
-use Prim.Native.Nat.{◌+◌, ◌-◌}
-use mathlib.Core.Path.{◌≡◌, refl}
-use lib.ListN.{length, drop}
-use native.Mathlib.Omega.{arith}
 use Rattle.words.proofs.piece_end.Goals as goal
 
 pub returns-then-s-i : goal.returns-then-s-i

@@ -1,10 +1,8 @@
 -- No separator stands between `at` and i.
-use Rattle.words.proofs.Pieces.{end-hit, end_on, end-past}
 use Rattle.words.specs.Fields.{up_to}
 use Prim.Native.Nat.{◌+◌, ◌-◌}
-use mathlib.Core.Path.{◌≡◌, refl}
+use mathlib.Core.Path.{◌≡◌}
 use lib.ListN.{length, drop}
-use native.Mathlib.Omega.{arith}
 use Rattle.words.proofs.piece_end.Given as goal
 
 abbrev pub invariant-loop-i : goal.invariant-loop-i

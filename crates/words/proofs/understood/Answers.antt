@@ -3,7 +3,6 @@ use Rattle.words.proofs.Reading.{no-letter, letter-alone, two-long, letter-first
 use Rattle.words.specs.Fields.{number_of}
 use Rattle.words.specs.Commands.{call_of}
 use Rattle.paper.specs.Replay.{line_call}
-use borrow.Author.Rules.{rules}
 use native.Mathlib.Omega.{arith}
 use mathlib.Core.Path.{sym, ap, ◌∙◌}
 use Rattle.words.proofs.understood.Goals as goal

@@ -6,7 +6,6 @@ use Rattle.paper.specs.Keys.{Bytes}
 use Rattle.paper.specs.Replay.{line_call}
 use mathlib.Core.List.{List, [], ◌∷◌}
 use mathlib.Core.Path.{sym, ap, ◌∙◌}
-use borrow.Author.Rules.{rules}
 use Rattle.words.proofs.with_handle.Goals as goal
 
 pub returns-then-until-line : goal.returns-then-until-line
