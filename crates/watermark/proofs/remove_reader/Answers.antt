@@ -34,13 +34,13 @@ pub cut-requires : goal.cut-requires
 cut-requires c =
     let way : RemoveWay (room_in c.args.times.now c.args.counts.now) c.args.time (rows_in c.args.used c.args.times.now c.args.counts.now) c.plan_remove-plan.result (try_remove_row (room_in c.args.times.now c.args.counts.now) (rows_in c.args.used c.args.times.now c.args.counts.now) c.args.time) = remove-of (room_in c.args.times.now c.args.counts.now) c.args.time c.args.used (λ i. row (get_or c.args.times.now i 0) (get_or c.args.counts.now i 0)) c.scan-s.result c.scan-s.ensures
     c.plan_remove-plan.result c.plan_remove-plan.ensures in
-    let w = remove-within (way) in (w.cut-from, w.cut-next, omega (arith, w.cut-to, c.put.auto.0))
+    let w = remove-within (way) in (w.cut-from, w.cut-next, omega (arith, w.cut-to, c.put.auto.slice))
 
 pub cut-requires-2 : goal.cut-requires-2
 cut-requires-2 c =
     let way : RemoveWay (room_in c.args.times.now c.args.counts.now) c.args.time (rows_in c.args.used c.args.times.now c.args.counts.now) c.plan_remove-plan.result (try_remove_row (room_in c.args.times.now c.args.counts.now) (rows_in c.args.used c.args.times.now c.args.counts.now) c.args.time) = remove-of (room_in c.args.times.now c.args.counts.now) c.args.time c.args.used (λ i. row (get_or c.args.times.now i 0) (get_or c.args.counts.now i 0)) c.scan-s.result c.scan-s.ensures
     c.plan_remove-plan.result c.plan_remove-plan.ensures in
-    let w = remove-within (way) in (w.cut-from, w.cut-next, omega (arith, w.cut-to, c.put-2.auto.0))
+    let w = remove-within (way) in (w.cut-from, w.cut-next, omega (arith, w.cut-to, c.put-2.auto.slice))
 
 pub returns : goal.returns
 returns c =

@@ -37,6 +37,12 @@ offset_bounds-counts-i c = omega (arith, (within-room c.args.used c.lesser-room.
 pub bounds-counts-i : goal.bounds-counts-i
 bounds-counts-i c = omega (arith, (within-room c.args.used c.lesser-room.result).0)
 
+pub see-s-requires : goal.see-s-requires
+see-s-requires c =
+    let w = scanning-within _ _ _ _ _ _ c.loop-i.invariant.2 in
+    let e = (within-room c.args.used c.lesser-room.result).0 in
+    (omega arith, omega arith)
+
 pub overflow_add-i : goal.overflow_add-i
 overflow_add-i c = omega (arith, (within-room c.args.used c.lesser-room.result).0)
 

@@ -15,7 +15,7 @@ use native.Mathlib.Omega.{arith}
 use Rattle.watermark.proofs.scan.Given as goal
 
 abbrev pub invariant-loop-i : goal.invariant-loop-i
-invariant-loop-i l = (l.room ≡ room_in l.times l.counts) × (l.end ≡ within_of l.used l.room) × Scanning (leb l.used l.room) l.time l.end (row_at l.times l.counts) l.s l.i
+invariant-loop-i l = (l.room ≡ room_in l.times l.counts) × (l.end ≡ within_of l.used l.room) × Scanning (leb l.used l.room) l.time l.end (λ i. row (get_or l.times i 0) (get_or l.counts i 0)) l.s l.i
 
 abbrev pub decreases-loop-i : goal.decreases-loop-i
 decreases-loop-i l = l.end - l.i
