@@ -10,7 +10,7 @@ use lib.ListN.{get_or}
 use lib.Dec.{leb}
 use mathlib.Core.List.{List}
 use mathlib.Core.Path.{◌≡◌, refl, ap, ◌∙◌, subst}
-use Prim.Native.Nat.{ℕ, ◌-◌, ◌≤◌}
+use Prim.Native.Nat.{ℕ, ◌≤◌}
 use native.Mathlib.Omega.{arith}
 use Rattle.watermark.proofs.scan.Goals as goal
 

@@ -1,17 +1,12 @@
 -- `watermark::scan` meets its contract. The loop's state is `Scanning`.
-use Rattle.watermark.specs.declared.pass.Scan.{Scan}
-use Rattle.watermark.specs.Table.{up_to}
-use Rattle.watermark.specs.Pass.{scanned}
-use Rattle.watermark.proofs.OnePass.{Scanning, scanning-start, scanning-step, scanning-within, scanning-end, within-room}
+use Rattle.watermark.proofs.OnePass.{Scanning}
 use Rattle.watermark.specs.Pass.{within_of}
 use Rattle.watermark.specs.Table.{room_in}
-use Rattle.paper.specs.Readers.{Row, row}
+use Rattle.paper.specs.Readers.{row}
 use lib.ListN.{get_or}
 use lib.Dec.{leb}
-use mathlib.Core.List.{List}
-use mathlib.Core.Path.{◌≡◌, refl, ap, ◌∙◌, subst}
-use Prim.Native.Nat.{ℕ, ◌-◌, ◌≤◌}
-use native.Mathlib.Omega.{arith}
+use mathlib.Core.Path.{◌≡◌}
+use Prim.Native.Nat.{◌-◌}
 use Rattle.watermark.proofs.scan.Given as goal
 
 abbrev pub invariant-loop-i : goal.invariant-loop-i
