@@ -1,6 +1,7 @@
 // Runs P13 and each refusal of the reader table on both of the library's tables, and writes a line for each call: the table, the call, the number that it
 // returns, what it tells, and for a call that writes how many rows are in use and what all four hold.
 #![tactic(auto)]
+
 mod lent;
 mod told;
 

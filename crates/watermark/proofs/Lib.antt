@@ -5,5 +5,4 @@ pub mod Splits
 pub mod Plans
 pub mod Fronts
 pub mod Answers
-pub mod Again
 pub mod Same

@@ -1,6 +1,7 @@
 // The reader table: the timestamps at which transactions read, strictly rising, and the number of readers at each. Here it lies in two lent slices, row i
 // being times[i] and counts[i] for each i below `used`; `rows` has it in one lent slice of rows.
 #![tactic(auto)]
+
 mod pass;
 pub mod reply;
 pub mod rows;

@@ -9,7 +9,6 @@ use Rattle.paper.specs.Readers.{row}
 use lib.ListN.{get_or}
 use mathlib.Core.Path.{◌∙◌, ap}
 use native.Mathlib.Omega.{arith}
-use borrow.Author.Rules.{rules}
 use Rattle.watermark.proofs.add_reader.Goals as goal
 
 pub put-requires : goal.put-requires

@@ -1,7 +1,6 @@
 -- `watermark::cut` meets its contract. The loop's state is `Moving`.
-use Rattle.watermark.proofs.Moves.{Moving, move_start, move_step, move-length, move-end}
+use Rattle.watermark.proofs.Moves.{Moving}
 use Prim.Native.Nat.{◌-◌}
-use native.Mathlib.Omega.{arith}
 use Rattle.watermark.proofs.cut.Given as goal
 
 abbrev pub invariant-loop-i : goal.invariant-loop-i

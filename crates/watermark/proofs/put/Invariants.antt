@@ -1,7 +1,6 @@
 -- `watermark::put` meets its contract. The loop's state is `Putting`.
-use Rattle.watermark.proofs.Moves.{Putting, put-start, put_step, put-length, put-end}
+use Rattle.watermark.proofs.Moves.{Putting}
 use Prim.Native.Nat.{◌-◌}
-use native.Mathlib.Omega.{arith}
 use Rattle.watermark.proofs.put.Given as goal
 
 abbrev pub invariant-loop-i : goal.invariant-loop-i

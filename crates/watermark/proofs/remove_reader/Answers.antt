@@ -11,7 +11,6 @@ use mathlib.Core.List.{List}
 use mathlib.Core.Path.{◌∙◌, ap}
 use Prim.Native.Nat.{ℕ}
 use native.Mathlib.Omega.{arith}
-use borrow.Author.Rules.{rules}
 use Rattle.watermark.proofs.remove_reader.Goals as goal
 
 pub plan_remove-plan-requires : goal.plan_remove-plan-requires

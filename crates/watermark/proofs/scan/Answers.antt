@@ -10,7 +10,7 @@ use lib.ListN.{get_or}
 use lib.Dec.{leb}
 use mathlib.Core.List.{List}
 use mathlib.Core.Path.{◌≡◌, refl, ap, ◌∙◌, subst}
-use Prim.Native.Nat.{ℕ, ◌-◌, ◌≤◌}
+use Prim.Native.Nat.{ℕ, ◌≤◌}
 use native.Mathlib.Omega.{arith}
 use Rattle.watermark.proofs.scan.Goals as goal
 
@@ -36,6 +36,12 @@ offset_bounds-counts-i c = omega (arith, (within-room c.args.used c.lesser-room.
 
 pub bounds-counts-i : goal.bounds-counts-i
 bounds-counts-i c = omega (arith, (within-room c.args.used c.lesser-room.result).0)
+
+pub see-s-requires : goal.see-s-requires
+see-s-requires c =
+    let w = scanning-within _ _ _ _ _ _ c.loop-i.invariant.2 in
+    let e = (within-room c.args.used c.lesser-room.result).0 in
+    (omega arith, omega arith)
 
 pub overflow_add-i : goal.overflow_add-i
 overflow_add-i c = omega (arith, (within-room c.args.used c.lesser-room.result).0)

@@ -1,6 +1,5 @@
 -- `watermark::smallest` meets its contract.
 use Rattle.watermark.proofs.Answers.{smallest-of}
-use borrow.Author.Rules.{rules}
 use Rattle.watermark.proofs.smallest.Goals as goal
 
 pub returns : goal.returns

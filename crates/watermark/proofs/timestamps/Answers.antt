@@ -1,6 +1,5 @@
 -- `watermark::timestamps` meets its contract.
 use Rattle.watermark.proofs.Answers.{timestamps-of}
-use borrow.Author.Rules.{rules}
 use Rattle.watermark.proofs.timestamps.Goals as goal
 
 pub returns : goal.returns

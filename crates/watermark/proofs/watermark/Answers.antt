@@ -1,6 +1,5 @@
 -- `watermark::watermark` meets its contract.
 use Rattle.watermark.proofs.Answers.{mark-of}
-use borrow.Author.Rules.{rules}
 use Rattle.watermark.proofs.watermark.Goals as goal
 
 pub returns : goal.returns

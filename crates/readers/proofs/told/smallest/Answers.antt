@@ -1,6 +1,5 @@
 -- `readers::told::smallest` meets its contract: each case of the reply.
 use Rattle.paper.specs.Refusals.{refusal_number, room_number}
-use borrow.Author.Rules.{rules}
 use Rattle.readers.proofs.told.smallest.Goals as goal
 
 pub returns-in-Unsound : goal.returns-in-Unsound

@@ -4,7 +4,6 @@ use Prim.Native.Nat.{ℕ, ◌≤◌, ◌<◌}
 use Rattle.watermark.specs.Pass.{passed_of}
 use native.Mathlib.Omega.{arith}
 use borrow.Author.Tests.{lt-ltb, le-ltb, le-leb, lt-leb, eq-eqb, ne_eqb}
-use borrow.Author.Rules.{rules}
 use Rattle.watermark.proofs.pass.passed.Goals as goal
 
 above : (a b : ℕ) → b ≤ a → (a ≡ b → ⊥) → b < a

@@ -1,7 +1,6 @@
 -- `watermark::pass::plan_add` meets its contract: each way through its tests.
 use Rattle.watermark.specs.Pass.{adding_of}
 use borrow.Author.Tests.{lt-ltb, le-ltb}
-use borrow.Author.Rules.{rules}
 use Rattle.watermark.proofs.pass.plan_add.Goals as goal
 
 pub returns-then-s-lt18446744073709551615 : goal.returns-then-s-lt18446744073709551615

@@ -1,7 +1,6 @@
 -- `watermark::pass::plan_remove` meets its contract: each way through its tests.
 use Rattle.watermark.specs.Pass.{removing_of}
 use borrow.Author.Tests.{lt-ltb, le-ltb, le-leb, lt-leb}
-use borrow.Author.Rules.{rules}
 use Rattle.watermark.proofs.pass.plan_remove.Goals as goal
 
 pub returns-then-s-le1 : goal.returns-then-s-le1

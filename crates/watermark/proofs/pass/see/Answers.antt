@@ -4,7 +4,6 @@ use mathlib.Core.Path.{◌≡◌}
 use Prim.Native.Nat.{ℕ, ◌<◌}
 use native.Mathlib.Omega.{arith}
 use borrow.Author.Tests.{lt-ltb, le-ltb}
-use borrow.Author.Rules.{rules}
 use Rattle.watermark.proofs.pass.see.Goals as goal
 
 some-reader : (n : ℕ) → (n ≡ 0 → ⊥) → 0 < n

@@ -1,2 +1,0 @@
--- What the lenders of rows share.
-pub mod Local
