@@ -9,7 +9,7 @@ use lib.ListN.{length, take, drop, get_or, length-append, length-drop, drop_of_l
 use lib.Seq.{drop-drop, take-length}
 use lib.Dec.{leb}
 use borrow.Author.Tests.{le-leb, leb-true}
-use Rattle.paper.specs.Lists.{all, total}
+use Rattle.paper.specs.Lists.{total}
 use Rattle.paper.specs.Keys.{Bytes, octets}
 use Rattle.paper.specs.Runs.{Run}
 use Rattle.paper.specs.Image as paper

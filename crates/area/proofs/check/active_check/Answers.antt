@@ -6,7 +6,6 @@ use Rattle.raw.specs.Bytes.{part}
 use Prim.Native.Nat.{◌+◌}
 use native.Mathlib.Omega.{arith}
 use mathlib.Core.Path.{subst}
-use borrow.Author.Rules.{rules}
 use Rattle.area.proofs.check.active_check.Goals as goal
 
 pub returns-then-width-n : goal.returns-then-width-n

@@ -2,7 +2,6 @@ use Rattle.area.proofs.Imaging.{image-short, image-cut, image-broken, image-fore
 use Rattle.raw.proofs.Octets.{octets-of}
 use mathlib.Core.Path.{sym, ◌∙◌}
 use native.Mathlib.Omega.{arith}
-use borrow.Author.Rules.{rules}
 use Rattle.area.proofs.check.image_at.Goals as goal
 
 pub returns-then-end-at-lt8 : goal.returns-then-end-at-lt8

@@ -1,12 +1,10 @@
-use Rattle.area.proofs.AreaLaws.{Passing, pass-start, pass-done, pass-wrong, pass_fits, pass-next}
+use Rattle.area.proofs.AreaLaws.{pass-start, pass-done, pass-wrong, pass_fits, pass-next}
 use Rattle.area.specs.Told.{Imaged, ImageAt}
 use Rattle.raw.proofs.Octets.{octets-of}
 use Rattle.paper.specs.Keys.{octets}
-use borrow.Author.Rules.{rules}
 use native.Mathlib.Omega.{arith}
 use mathlib.Core.Bool.{true}
 use mathlib.Core.Path.{◌≡◌, subst}
-use Prim.Native.Nat.{◌-◌}
 use Rattle.area.proofs.check.images_check.Goals as goal
 
 pub loop-i-init : goal.loop-i-init

@@ -1,7 +1,6 @@
 use Rattle.area.specs.declared.check.Others.{Others}
 use Prim.Native.Nat.{◌+◌}
 use mathlib.Core.Path.{ap₂}
-use borrow.Author.Rules.{rules}
 use Rattle.area.proofs.check.with_run.Goals as goal
 
 pub returns : goal.returns

@@ -1,7 +1,7 @@
-use Rattle.area.proofs.Counting.{Counting, Counted, count-start, count-done, count-there, count_next}
+use Rattle.area.proofs.Counting.{Counted, count-start, count-done, count-there, count_next}
 use Rattle.raw.proofs.Octets.{octets-of}
 use native.Mathlib.Omega.{arith}
-use Prim.Native.Nat.{◌+◌, ◌-◌, ◌≤◌}
+use Prim.Native.Nat.{◌+◌, ◌≤◌}
 use lib.ListN.{length}
 use Rattle.area.proofs.cursors.count_images.Goals as goal
 
@@ -22,17 +22,17 @@ be64-requires c =
 pub overflow_add-i : goal.overflow_add-i
 overflow_add-i c =
     let counted : Counted c.args.state.now c.args.at c.args.end c.loop-i.i c.loop-i.count c.be64.result = count_next c.args.state.now c.args.at c.args.end c.requires.0 c.requires.1 c.loop-i.i c.loop-i.count c.loop-i.invariant c.loop-i-test.true c.be64.result c.be64.ensures in
-    omega (arith, (counted).ranges)
+    omega (arith, counted.fits)
 
 pub overflow_add-count : goal.overflow_add-count
 overflow_add-count c =
     let counted : Counted c.args.state.now c.args.at c.args.end c.loop-i.i c.loop-i.count c.be64.result = count_next c.args.state.now c.args.at c.args.end c.requires.0 c.requires.1 c.loop-i.i c.loop-i.count c.loop-i.invariant c.loop-i-test.true c.be64.result c.be64.ensures in
-    omega (arith, c.loop-i.invariant.few, (counted).ranges)
+    omega (arith, c.loop-i.invariant.few, counted.fits)
 
 pub loop-i-smaller : goal.loop-i-smaller
 loop-i-smaller c =
     let counted : Counted c.args.state.now c.args.at c.args.end c.loop-i.i c.loop-i.count c.be64.result = count_next c.args.state.now c.args.at c.args.end c.requires.0 c.requires.1 c.loop-i.i c.loop-i.count c.loop-i.invariant c.loop-i-test.true c.be64.result c.be64.ensures in
-    omega (arith, (counted).ranges)
+    omega (arith, counted.fits)
 
 pub loop-i-preserved : goal.loop-i-preserved
 loop-i-preserved c =

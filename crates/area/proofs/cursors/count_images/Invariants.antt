@@ -1,8 +1,5 @@
-use Rattle.area.proofs.Counting.{Counting, Counted, count-start, count-done, count-there, count_next}
-use Rattle.raw.proofs.Octets.{octets-of}
-use native.Mathlib.Omega.{arith}
-use Prim.Native.Nat.{◌+◌, ◌-◌, ◌≤◌}
-use lib.ListN.{length}
+use Rattle.area.proofs.Counting.{Counting}
+use Prim.Native.Nat.{◌-◌}
 use Rattle.area.proofs.cursors.count_images.Given as goal
 
 abbrev pub invariant-loop-i : goal.invariant-loop-i

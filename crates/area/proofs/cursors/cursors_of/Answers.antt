@@ -1,4 +1,4 @@
-use Rattle.area.proofs.Placing.{Placing, Placed, place-start, place-there, place-next, place-done, used-is, spread}
+use Rattle.area.proofs.Placing.{Placed, place-start, place-there, place-next, place-done, used-is, spread}
 use Rattle.area.proofs.Sites.{Sites, sites, area-used, area-read}
 use Rattle.area.proofs.Lying.{lying-read}
 use Rattle.settings.specs.Parts.{or_empty}

@@ -1,6 +1,5 @@
 use native.Mathlib.Omega.{arith}
 use Rattle.area.proofs.OpeningLaws.{verdict-cut, verdict-whole}
-use borrow.Author.Rules.{rules}
 use Rattle.area.proofs.opening.image_verdict.Goals as goal
 
 pub returns-then-images-at : goal.returns-then-images-at

@@ -1,5 +1,4 @@
 use Rattle.area.proofs.OpeningLaws.{fit-many, fit-total}
-use borrow.Author.Rules.{rules}
 use Rattle.area.proofs.opening.images_fit.Goals as goal
 
 pub returns-then-lengths-gt16 : goal.returns-then-lengths-gt16

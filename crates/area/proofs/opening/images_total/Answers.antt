@@ -1,9 +1,6 @@
-use Rattle.area.proofs.OpeningLaws.{Summing, sum-start, sum_done, sum_fits, sum-next}
-use borrow.Author.Rules.{rules}
+use Rattle.area.proofs.OpeningLaws.{sum-start, sum_done, sum_fits, sum-next}
 use native.Mathlib.Omega.{arith}
-use lib.ListN.{length}
 use mathlib.Core.Path.{refl}
-use Prim.Native.Nat.{◌-◌}
 use Rattle.area.proofs.opening.images_total.Goals as goal
 
 pub loop-i-init : goal.loop-i-init

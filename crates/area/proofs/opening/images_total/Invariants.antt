@@ -1,8 +1,5 @@
-use Rattle.area.proofs.OpeningLaws.{Summing, sum-start, sum_done, sum_fits, sum-next}
-use borrow.Author.Rules.{rules}
-use native.Mathlib.Omega.{arith}
+use Rattle.area.proofs.OpeningLaws.{Summing}
 use lib.ListN.{length}
-use mathlib.Core.Path.{refl}
 use Prim.Native.Nat.{◌-◌}
 use Rattle.area.proofs.opening.images_total.Given as goal
 

@@ -1,10 +1,7 @@
-use Rattle.area.proofs.OpeningLaws.{Opening, open-start, open_done, open-broken, open-foreign, open-fits, open_next}
+use Rattle.area.proofs.OpeningLaws.{open-start, open_done, open-broken, open-foreign, open-fits, open_next}
 use Rattle.raw.proofs.Octets.{octets-of}
-use borrow.Author.Rules.{rules}
 use native.Mathlib.Omega.{arith}
-use lib.ListN.{length}
 use mathlib.Core.Path.{refl, sym, ◌∙◌}
-use Prim.Native.Nat.{◌-◌}
 use Rattle.area.proofs.opening.open_check.Goals as goal
 
 pub loop-i-init : goal.loop-i-init

@@ -1,9 +1,5 @@
-use Rattle.area.proofs.OpeningLaws.{Opening, open-start, open_done, open-broken, open-foreign, open-fits, open_next}
-use Rattle.raw.proofs.Octets.{octets-of}
-use borrow.Author.Rules.{rules}
-use native.Mathlib.Omega.{arith}
+use Rattle.area.proofs.OpeningLaws.{Opening}
 use lib.ListN.{length}
-use mathlib.Core.Path.{refl, sym, ◌∙◌}
 use Prim.Native.Nat.{◌-◌}
 use Rattle.area.proofs.opening.open_check.Given as goal
 

@@ -4,7 +4,7 @@ use Rattle.raw.proofs.Parts.{length_part}
 use Rattle.raw.specs.Bytes.{part, over}
 use Rattle.paper.proofs.ImageLaws.{length-big_endian}
 use Rattle.paper.specs.Image.{big_endian}
-use Rattle.area.proofs.PutLaws.{Putting, Next, put-start, put_next, put-done, same-long, plain-long}
+use Rattle.area.proofs.PutLaws.{Next, put-start, put_next, put-done, same-long, plain-long}
 use Rattle.raw.proofs.Octets.{octets-of}
 use Rattle.paper.specs.Keys.{octets}
 use borrow.Author.Rules.{rules}

@@ -4,7 +4,6 @@ use Rattle.paper.specs.Keys.{Bytes}
 use Prim.Native.Nat.{◌+◌}
 use native.Mathlib.Omega.{arith}
 use mathlib.Core.Path.{ap, ◌∙◌}
-use borrow.Author.Rules.{rules}
 use Rattle.area.proofs.opening.put_sized.Goals as goal
 
 pub returns : goal.returns
