@@ -74,7 +74,7 @@ module _ (b : Bytes) (o : octets b ≡ true) (h : sound_state b ≡ true) where
 
     -- its bytes hold the transaction
     here : Has (place_slot st) (place_part st b i) (some t)
-    here = subst (Has (place_slot st) (place_part st b i)) S.here (inside.place_at b s o reads i S.inside)
+    here = subst (Has (place_slot st) (place_part st b i)) S.here (inside.place_at_lem b s o reads i S.inside)
 
     sound-txn : sound_txn st s.counter s.clock t ≡ true
     sound-txn = found_all (sound_txn st s.counter s.clock) handle t s.places S.found (rules s (sound-in b h)).txns

@@ -121,7 +121,7 @@ module _ (b : Bytes) (o : octets b ≡ true) (z : Shape) (place : ℕ) (p : Plac
   place_same = ap (λ (n : ℕ). part b n (stride st)) p.start
 
   pub held_place : Has (place_slot (store_in b).settings) (part b place (stride (store_in b).settings)) (some p.txn)
-  held_place = subst (λ (q : Bytes). Has (place_slot st) q (some t)) (sym place_same) (subst (Has (place_slot st) (place_part st b i)) p.here (inside.place_at b s o reads_as i p.inside))
+  held_place = subst (λ (q : Bytes). Has (place_slot st) q (some t)) (sym place_same) (subst (Has (place_slot st) (place_part st b i)) p.here (inside.place_at_lem b s o reads_as i p.inside))
 
   -- the transaction that stands there
   pub held-is : held_at b place ≡ p.txn

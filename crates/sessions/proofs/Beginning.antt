@@ -223,7 +223,7 @@ module _ (b : Bytes) (o : octets b ≡ true) (z : Shape) (start handle clock : �
       ∙ sym (write-place s₁ b enough fits₁ (inside.lies b s₀ o (sound-read b h)).places m.index among (some t₀) seat-fits)
 
   y-long : length y₁ ≡ stride st₀
-  y-long = ap length y-is ∙ (place-laws st₀).long (place_part st₀ b m.index) (some t₀) (inside.place_at b s₀ o (sound-read b h) m.index among).long seat-fits ∙ place-width st₀
+  y-long = ap length y-is ∙ (place-laws st₀).long (place_part st₀ b m.index) (some t₀) (inside.place_at_lem b s₀ o (sound-read b h) m.index among).long seat-fits ∙ place-width st₀
 
   -- the rows are still as they were
   rows₂ : part b₂ start_rows (z.history - start_rows) ≡ rows_part st₀ b

@@ -106,7 +106,7 @@ module _ (b : Bytes) (o : octets b ≡ true) (h : sound_state b ≡ true) (handl
 
       -- the transaction in its place
       seated-here : Has (place_slot (store_in b).settings) (place_part (store_in b).settings b here.index) (some here.txn)
-      seated-here = subst (Has (place_slot st) (place_part st b i)) here.here (inside.place_at b s o (sound-read b h) i here.inside)
+      seated-here = subst (Has (place_slot st) (place_part st b i)) here.here (inside.place_at_lem b s o (sound-read b h) i here.inside)
 
       txn-sound : sound_txn (store_in b).settings (store_in b).counter (store_in b).clock here.txn ≡ true
       txn-sound = found_all (sound_txn st s.counter s.clock) handle t s.places here.found (rules s good).txns

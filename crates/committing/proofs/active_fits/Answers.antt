@@ -54,3 +54,8 @@ pub fits-requires : goal.fits-requires
 fits-requires c =
     let bytes : octets c.args.state.now ≡ true = octets-of c.args.state.now (λ i. omega (arith, c.type_inv.state i)) in
     fits-ready c.args.state.now bytes c.args.shape c.args.place c.requires.0 c.args.number c.requires.1 c.end_of-end.result c.end_of-stop.result c.end_of-end.ensures c.end_of-stop.ensures
+
+pub returns : goal.returns
+returns c =
+    let bytes : octets c.args.state.now ≡ true = octets-of c.args.state.now (λ i. omega (arith, c.type_inv.state i)) in
+    fits_told c.args.state.now bytes c.args.shape c.args.place c.requires.0 c.args.number c.requires.1 c.end_of-end.result c.end_of-stop.result c.end_of-end.ensures c.end_of-stop.ensures c.fits.result c.fits.ensures

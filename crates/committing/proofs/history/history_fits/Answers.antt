@@ -35,3 +35,9 @@ fits-requires c =
     let bytes : octets c.args.state.now ≡ true = octets-of c.args.state.now (λ i. omega (arith, c.type_inv.state i)) in
     let starts : (c.set_starts-sets.result.reads ≡ (set_starts c.args.shape c.args.place).reads) × (c.set_starts-sets.result.writes ≡ (set_starts c.args.shape c.args.place).writes) = starts-are c.args.shape c.args.place c.set_starts-sets.result c.set_starts-sets.ensures in
     fits-ready c.args.state.now bytes c.args.shape c.args.place c.requires.0 (not-false c.args.shape.serializable c.if-not-shape.false) c.args.number c.requires.1 c.set_starts-sets.result.writes starts.1 c.hash_count-count.result c.hash_count-count.ensures c.history_end-end.result c.history_end-end.ensures c.cut_of-cut.result c.cut_of-cut.ensures
+
+pub returns : goal.returns
+returns c =
+    let bytes : octets c.args.state.now ≡ true = octets-of c.args.state.now (λ i. omega (arith, c.type_inv.state i)) in
+    let starts : (c.set_starts-sets.result.reads ≡ (set_starts c.args.shape c.args.place).reads) × (c.set_starts-sets.result.writes ≡ (set_starts c.args.shape c.args.place).writes) = starts-are c.args.shape c.args.place c.set_starts-sets.result c.set_starts-sets.ensures in
+    fits_told c.args.state.now bytes c.args.shape c.args.place c.requires.0 (not-false c.args.shape.serializable c.if-not-shape.false) c.args.number c.requires.1 c.set_starts-sets.result.writes starts.1 c.hash_count-count.result c.hash_count-count.ensures c.history_end-end.result c.history_end-end.ensures c.cut_of-cut.result c.cut_of-cut.ensures c.fits.result c.fits.ensures
