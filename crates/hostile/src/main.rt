@@ -1,7 +1,8 @@
 // Runs damaged states past the state check: a small sound state, every change of one of its bytes, every cut, and pseudo-random damage.
 // A line for each group says how many states were checked, and how many of them were found sound.
 #![tactic(auto)]
-use libc::STDOUT_FILENO;
+// Where the lines go: standard output, by its number.
+const STDOUT_FILENO: i32 = 1;
 
 // How many states were checked, and how many of them were sound.
 #[derive(Clone, Copy)]

@@ -2,11 +2,14 @@
 // round trips, and damaged copies. Each verdict is compared with one that this program finds in its own, slower way.
 // A line for each group says how many images were told as good, broken (10) and foreign (11), and on how many the two differ.
 #![tactic(auto)]
+
 mod plain; // plain.rt: the verdict once more, written from the paper and unlike the library
 mod build; // build.rt: images of small versions, of lists of them, and of single records of a given length
 mod trips; // trips.rt: images written, frozen and read back
 
-use libc::STDOUT_FILENO;
+// Where the lines go: standard output, by its number.
+const STDOUT_FILENO: i32 = 1;
+
 use run::Verdict;
 
 // How many images were told as what, and on how many the two verdicts differ.

@@ -1,7 +1,9 @@
 // Runs the calls of the host at the paper's limits of length and of runs: 'lengths 65,535 pass and 65,536 give 2; 16 and 17 runs'. Each line has what was
 // asked and the number returned.
 #![tactic(auto)]
-use libc::STDOUT_FILENO;
+// Where the lines go: standard output, by its number.
+const STDOUT_FILENO: i32 = 1;
+
 use reply::{Begun, Committed, Got};
 use settings::Settings;
 

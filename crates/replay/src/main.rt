@@ -2,7 +2,10 @@
 // `script::replay`; one byte more than a script may have is read, so that a longer one is seen to be so. The out buffer is as long as any script's output can
 // be, which crate `outputs` proves.
 #![tactic(auto)]
-use libc::{STDIN_FILENO, STDOUT_FILENO};
+// Standard input and standard output, by their numbers.
+const STDIN_FILENO: i32 = 0;
+
+const STDOUT_FILENO: i32 = 1;
 
 fn run(input: &mut [u8], out: &mut [u8]) {
     let n = io::read_full(STDIN_FILENO, input);
