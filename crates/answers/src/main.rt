@@ -1,6 +1,7 @@
 // A fixed list of reads over packed runs, each answered on a line. The expected lines are the answers of the original Rust.
 // Written by oracle/fixed_list.py.
 #![tactic(auto)]
+
 mod reading; // reading.rt: a whole scan and a get, written as a line
 mod views; // views.rt: the views of the packed bytes
 mod cases; // cases.rt: the reads

@@ -26,7 +26,6 @@ use Rattle.lsm.specs.declared.walk.Mark.{Mark}
 use Rattle.lsm.specs.declared.walk.Mark.TheVariants.{Found, Ended, Looking, Leaving}
 use Rattle.lsm.specs.declared.walk.Walk.{Walk}
 use Rattle.key.proofs.Placing.{version-placed}
-use Rattle.merge.proofs.MergeLaws.{handed}
 use Rattle.merge.proofs.Handing.{empty, begins}
 use Rattle.lsm.proofs.Basics.{some-value, no_value}
 

@@ -1,5 +1,6 @@
 // What a reader sees of runs and own writes that lie packed in one lent slice. Answers are places in that slice, so that the caller copies once.
 #![tactic(auto)]
+
 pub mod answer;
 pub mod bounds;
 pub mod get;

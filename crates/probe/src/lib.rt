@@ -1,6 +1,7 @@
 // Functions for the comparison with the original Rust: a scan and a get over packed runs that a program in another language lends, and the verdict on
 // an image. They are a test harness. The caller answers for the packed bytes, since nothing here checks them.
 #![tactic(auto)]
+
 ghost use Rattle.std.specs.Prelude.{◌≡◌, ◌+◌, ◌≤◌, ◌<◌, length};
 ghost use Rattle.paper.specs.Seen.{seen, scanned};
 ghost use Rattle.lsm.specs.Edges.{bound_of};

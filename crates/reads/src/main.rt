@@ -1,6 +1,7 @@
 // The sheet of cases, P1 to P10, over packed runs: a line for each case with the pairs that a scan hands out, answer by answer, and then a line for each
 // view with the pairs that a get of each key finds.
 #![tactic(auto)]
+
 ghost use Rattle.std.specs.Prelude.{◌≡◌};
 ghost use Rattle.lsm.specs.Pairs.{InBytes};
 ghost use Rattle.lsm.specs.Answers.{InAnswer};

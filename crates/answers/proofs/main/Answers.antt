@@ -1,7 +1,6 @@
 -- `answers::main` meets what the groups require: the bytes that it lends are the list's.
 use mathlib.Core.Path.{refl}
 use Rattle.answers.specs.Packed.{list_bytes}
-use borrow.Author.Rules.{rules}
 use Rattle.answers.proofs.main.Goals as goal
 
 pub groupa-requires : goal.groupa-requires

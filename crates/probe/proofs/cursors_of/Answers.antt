@@ -1,9 +1,7 @@
 -- `probe::cursors_of` meets its contract: the loop has placed the cursors of the first i runs.
 use Rattle.probe.proofs.Asking.{placed-none, placed-next, placed-all}
-use Rattle.probe.specs.Asked.{placed}
-use mathlib.Core.Path.{◌≡◌, refl, ◌∙◌}
-use Prim.Native.Nat.{◌≤◌, ◌-◌}
-use lib.ListN.{length, take, length-set}
+use mathlib.Core.Path.{refl, ◌∙◌}
+use lib.ListN.{length-set}
 use native.Mathlib.Omega.{arith}
 use Rattle.probe.proofs.cursors_of.Goals as goal
 

@@ -1,10 +1,8 @@
 -- `probe::cursors_of` meets its contract: the loop has placed the cursors of the first i runs.
-use Rattle.probe.proofs.Asking.{placed-none, placed-next, placed-all}
 use Rattle.probe.specs.Asked.{placed}
-use mathlib.Core.Path.{◌≡◌, refl, ◌∙◌}
+use mathlib.Core.Path.{◌≡◌}
 use Prim.Native.Nat.{◌≤◌, ◌-◌}
-use lib.ListN.{length, take, length-set}
-use native.Mathlib.Omega.{arith}
+use lib.ListN.{length, take}
 use Rattle.probe.proofs.cursors_of.Given as goal
 
 abbrev pub invariant-loop-i : goal.invariant-loop-i

@@ -1,6 +1,5 @@
 -- `probe::probe_get` meets its contract: what the read path answers of the view is told.
 use Rattle.probe.proofs.Telling.{readable-same, get-told}
-use borrow.Author.Rules.{rules}
 use Rattle.probe.proofs.probe_get.Goals as goal
 
 pub get-a-requires : goal.get-a-requires

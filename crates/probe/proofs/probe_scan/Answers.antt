@@ -1,6 +1,5 @@
 -- `probe::probe_scan` meets its contract: what the read path answers of the view is told.
 use Rattle.probe.proofs.Telling.{readable-same, scan-told}
-use borrow.Author.Rules.{rules}
 use Rattle.probe.proofs.probe_scan.Goals as goal
 
 pub scan-a-requires : goal.scan-a-requires

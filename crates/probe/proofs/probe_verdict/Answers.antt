@@ -1,5 +1,4 @@
 -- The verdict's case has its number.
-use borrow.Author.Rules.{rules}
 use mathlib.Core.Path.{sym, ◌∙◌}
 use Rattle.paper.specs.Image.{verdict}
 use Rattle.probe.proofs.Telling.{told-good, told-broken, told-foreign}

@@ -2,7 +2,6 @@
 use Rattle.probe.proofs.Telling.{told_at}
 use lib.ListN.{length-set, set}
 use native.Mathlib.Omega.{arith}
-use borrow.Author.Rules.{rules}
 use Rattle.probe.proofs.tell.Goals as goal
 
 pub bounds-out-1 : goal.bounds-out-1

@@ -4,7 +4,6 @@ use Rattle.lsm.specs.declared.view.View.{View}
 use Rattle.merge.specs.declared.heap.Cursor.{Cursor}
 use mathlib.Core.List.{List}
 use mathlib.Core.Path.{ap}
-use borrow.Author.Rules.{rules}
 use Rattle.probe.proofs.view_of.Goals as goal
 
 -- a view with other cursors

@@ -1,6 +1,5 @@
 use native.Mathlib.Omega.{arith}
 use Rattle.reads.proofs.Readings.{answer-in}
-use borrow.Author.Rules.{rules}
 use Rattle.reads.proofs.follow.Goals as goal
 
 pub write_pair-requires : goal.write_pair-requires

@@ -1,5 +1,4 @@
 use Rattle.reads.proofs.Readings.{answer-in}
-use borrow.Author.Rules.{rules}
 use Rattle.reads.proofs.get.Goals as goal
 
 pub write_pair-requires : goal.write_pair-requires

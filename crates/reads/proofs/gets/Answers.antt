@@ -1,4 +1,3 @@
-use borrow.Author.Rules.{rules}
 use Rattle.reads.proofs.gets.Goals as goal
 
 pub with_own-requires : goal.with_own-requires

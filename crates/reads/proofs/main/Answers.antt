@@ -3,7 +3,6 @@ use Rattle.paper.specs.Computing.{definitions}
 use Rattle.key.specs.Packing.{pack_all}
 use Rattle.lsm.specs.Pairs.{pair_bytes}
 use Rattle.reads.specs.Packed.{sheet_bytes}
-use borrow.Author.Rules.{rules}
 use Rattle.reads.proofs.main.Goals as goal
 
 pub cases-requires : goal.cases-requires

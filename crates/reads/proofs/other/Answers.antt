@@ -1,5 +1,4 @@
 use Rattle.reads.proofs.Readings.{other-readable, can-read}
-use borrow.Author.Rules.{rules}
 use Rattle.reads.proofs.other.Goals as goal
 
 pub returns : goal.returns

@@ -1,5 +1,4 @@
 use Rattle.reads.proofs.Readings.{plain-readable, can-read}
-use borrow.Author.Rules.{rules}
 use Rattle.reads.proofs.plain.Goals as goal
 
 pub returns : goal.returns

@@ -1,7 +1,3 @@
-use borrow.Author.Rules.{rules}
-use native.Mathlib.Omega.{arith}
-use Prim.Native.Nat.{◌-◌}
-use Rattle.lsm.specs.Answers.{InAnswer}
 use Rattle.reads.proofs.scan.Goals as goal
 
 pub scan-a-requires : goal.scan-a-requires

@@ -1,5 +1,3 @@
-use borrow.Author.Rules.{rules}
-use native.Mathlib.Omega.{arith}
 use Prim.Native.Nat.{◌-◌}
 use Rattle.lsm.specs.Answers.{InAnswer}
 use Rattle.reads.proofs.scan.Given as goal

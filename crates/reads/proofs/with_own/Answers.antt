@@ -1,5 +1,4 @@
 use Rattle.reads.proofs.Readings.{own-readable, can-read}
-use borrow.Author.Rules.{rules}
 use Rattle.reads.proofs.with_own.Goals as goal
 
 pub returns : goal.returns

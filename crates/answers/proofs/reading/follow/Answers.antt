@@ -1,7 +1,6 @@
 -- `answers::reading::follow` meets its contract: an answer's place lies in the bytes, and so does the next one's.
 use Rattle.answers.proofs.Readings.{answer-in}
 use native.Mathlib.Omega.{arith}
-use borrow.Author.Rules.{rules}
 use Rattle.answers.proofs.reading.follow.Goals as goal
 
 pub write_pair-requires : goal.write_pair-requires

@@ -1,6 +1,5 @@
 -- `answers::reading::get` is safe: an answer's place lies in the bytes.
 use Rattle.answers.proofs.Readings.{answer-in}
-use borrow.Author.Rules.{rules}
 use Rattle.answers.proofs.reading.get.Goals as goal
 
 pub write_value-requires : goal.write_value-requires

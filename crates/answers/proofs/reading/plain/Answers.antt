@@ -1,6 +1,5 @@
 -- `answers::reading::plain` meets its contract: the view of the runs alone can be read.
 use Rattle.answers.proofs.Readings.{plain-readable, can-read}
-use borrow.Author.Rules.{rules}
 use Rattle.answers.proofs.reading.plain.Goals as goal
 
 pub returns : goal.returns

@@ -1,8 +1,4 @@
 -- `answers::reading::scan` is safe and ends: each answer's place lies in the bytes.
-use Rattle.lsm.specs.Answers.{InAnswer}
-use Prim.Native.Nat.{◌-◌}
-use native.Mathlib.Omega.{arith}
-use borrow.Author.Rules.{rules}
 use Rattle.answers.proofs.reading.scan.Goals as goal
 
 pub scan-a-requires : goal.scan-a-requires

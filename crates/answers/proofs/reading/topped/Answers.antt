@@ -1,6 +1,5 @@
 -- `answers::reading::topped` meets its contract: the view with the own writes can be read.
 use Rattle.answers.proofs.Readings.{topped-readable, can-read}
-use borrow.Author.Rules.{rules}
 use Rattle.answers.proofs.reading.topped.Goals as goal
 
 pub returns : goal.returns

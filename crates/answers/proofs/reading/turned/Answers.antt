@@ -1,6 +1,5 @@
 -- `answers::reading::turned` meets its contract: the view of the runs in the opposite order can be read.
 use Rattle.answers.proofs.Readings.{turned-readable, can-read}
-use borrow.Author.Rules.{rules}
 use Rattle.answers.proofs.reading.turned.Goals as goal
 
 pub returns : goal.returns

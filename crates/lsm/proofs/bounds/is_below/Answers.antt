@@ -3,7 +3,6 @@ use Rattle.lsm.specs.Edges.{bound_of}
 use Rattle.paper.specs.Bounds.{below}
 use mathlib.Core.Bool.{not}
 use mathlib.Core.Path.{ap, sym, ◌∙◌}
-use borrow.Author.Rules.{rules}
 use Rattle.lsm.proofs.bounds.is_below.Goals as goal
 
 pub returns-in-Included : goal.returns-in-Included

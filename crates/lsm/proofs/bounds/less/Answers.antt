@@ -1,7 +1,6 @@
 use Rattle.raw.specs.Orders.{ordering}
 use Rattle.paper.specs.Lists.{is_lt}
 use mathlib.Core.Path.{ap, sym, ◌∙◌}
-use borrow.Author.Rules.{rules}
 use Rattle.lsm.proofs.bounds.less.Goals as goal
 
 pub returns-in-Less : goal.returns-in-Less

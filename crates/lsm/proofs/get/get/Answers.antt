@@ -2,7 +2,6 @@ use mathlib.Core.List.{map}
 use Rattle.merge.specs.Cursors.{left}
 use Rattle.lsm.specs.Views.{cursors_in, writes_in}
 use Rattle.lsm.proofs.NewestLaws.{seen-own, seen-newest}
-use borrow.Author.Rules.{rules}
 use Rattle.lsm.proofs.get.get.Goals as goal
 
 pub returns-in-At : goal.returns-in-At

@@ -1,7 +1,6 @@
 use mathlib.Core.Path.{sym, ap₂}
 use Rattle.lsm.specs.Newest.{newer_of}
 use Rattle.lsm.proofs.NewestLaws.{newer-yes, newer-no}
-use borrow.Author.Rules.{rules}
 use Rattle.lsm.proofs.get.newer.Goals as goal
 
 pub returns-in-Nothing-b : goal.returns-in-Nothing-b

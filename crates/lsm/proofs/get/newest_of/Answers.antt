@@ -1,13 +1,12 @@
 use native.Mathlib.Omega.{arith}
 use mathlib.Core.Path.{◌≡◌, refl, ◌∙◌, ap}
-use Prim.Native.Nat.{ℕ, ◌≤◌, ◌<◌, ◌-◌}
+use Prim.Native.Nat.{ℕ, ◌<◌}
 use lib.ListN.{length, take}
 use mathlib.Core.List.{map}
 use Rattle.paper.specs.Seen.{newest}
 use Rattle.paper.specs.Lists.{join}
 use Rattle.merge.proofs.Weights.{all-at}
 use Rattle.merge.specs.Cursors.{nowhere, lawful, left}
-use Rattle.lsm.specs.Newest.{best_in, InBest}
 use Rattle.lsm.proofs.NewestLaws.{newest-next, next-in}
 use Rattle.lsm.proofs.get.newest_of.Goals as goal
 

@@ -3,7 +3,6 @@ use native.Mathlib.Omega.{arith}
 use Rattle.lsm.specs.Newest.{own_of}
 use Rattle.lsm.proofs.PairLaws.{own-none}
 use Rattle.lsm.proofs.NewestLaws.{own-yes, own-no}
-use borrow.Author.Rules.{rules}
 use Rattle.lsm.proofs.get.own_of.Goals as goal
 
 pub returns-then-at-end : goal.returns-then-at-end

@@ -1,6 +1,5 @@
 use mathlib.Core.Path.{sym, ap, ◌∙◌}
 use Rattle.lsm.specs.Newest.{shown_of}
-use borrow.Author.Rules.{rules}
 use Rattle.lsm.proofs.get.shown.Goals as goal
 
 pub returns-in-At : goal.returns-in-At

@@ -1,7 +1,6 @@
 use Rattle.lsm.specs.declared.walk.Mark.{Mark}
 use Rattle.lsm.specs.Overlay.{answer_of}
 use mathlib.Core.Path.{ap, sym}
-use borrow.Author.Rules.{rules}
 use Rattle.lsm.proofs.overlay.answer_of.Goals as goal
 
 pub returns-in-Found : goal.returns-in-Found

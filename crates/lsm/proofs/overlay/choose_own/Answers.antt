@@ -3,7 +3,6 @@ use Rattle.lsm.specs.Pairs.{pair_at}
 use Rattle.lsm.specs.Overlay.{own_first_at}
 use mathlib.Core.Bool.{Bool, ◌&&◌}
 use mathlib.Core.Path.{ap, ap₂, sym, ◌∙◌}
-use borrow.Author.Rules.{rules}
 use Rattle.lsm.proofs.overlay.choose_own.Goals as goal
 
 pub returns-then-is_below : goal.returns-then-is_below

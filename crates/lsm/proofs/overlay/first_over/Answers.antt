@@ -1,10 +1,6 @@
-use Rattle.lsm.proofs.Scanning.{over_at, says-walk, over-end, over-stop, over-own, over-on}
-use Rattle.lsm.proofs.Basics.{not-true, not-false}
-use Rattle.lsm.specs.Overlay.{Standing}
+use Rattle.lsm.proofs.Scanning.{says-walk, over-end, over-stop, over-own, over-on}
 use Rattle.lsm.specs.Edges.{bound_of}
-use Rattle.lsm.specs.Pairs.{OwnAt}
-use Prim.Native.Nat.{◌-◌}
-use mathlib.Core.Path.{◌≡◌, refl, sym, ◌∙◌}
+use mathlib.Core.Path.{refl, sym, ◌∙◌}
 use native.Mathlib.Omega.{arith}
 use Rattle.lsm.proofs.overlay.first_over.Goals as goal
 
@@ -20,12 +16,12 @@ choose_own-requires c = (c.loop-at.invariant.1.inside, c.pair_at-p.ensures.insid
 pub returns-then-not-choose_own : goal.returns-then-not-choose_own
 returns-then-not-choose_own c =
     says-walk c.args.s.now c.args.read (bound_of c.args.edge c.args.hi.now) c.loop-at.w c.answer_of.result _ c.loop-at.invariant.1 c.answer_of.ensures
-    (over-stop c.args.s.now c.args.read (bound_of c.args.edge c.args.hi.now) c.loop-at.at c.args.end c.loop-at.w c.loop-at.invariant.1 c.loop-at.invariant.0 c.pair_at-p.result c.pair_at-p.ensures (sym c.choose_own.ensures ∙ not-true _ c.if-not-choose_own.true-raw) ∙ c.loop-at.invariant.2)
+    (over-stop c.args.s.now c.args.read (bound_of c.args.edge c.args.hi.now) c.loop-at.at c.args.end c.loop-at.w c.loop-at.invariant.1 c.loop-at.invariant.0 c.pair_at-p.result c.pair_at-p.ensures (sym c.choose_own.ensures ∙ c.if-not-choose_own.true) ∙ c.loop-at.invariant.2)
 
 pub returns-then-p : goal.returns-then-p
 returns-then-p c =
     record {
-      is = over-own c.args.s.now c.args.read (bound_of c.args.edge c.args.hi.now) c.loop-at.at c.args.end c.loop-at.w c.loop-at.invariant.1 c.loop-at.invariant.0 c.pair_at-p.result c.pair_at-p.ensures (sym c.choose_own.ensures ∙ not-false _ c.if-not-choose_own.false-raw) c.if-p.true ∙ c.loop-at.invariant.2;
+      is = over-own c.args.s.now c.args.read (bound_of c.args.edge c.args.hi.now) c.loop-at.at c.args.end c.loop-at.w c.loop-at.invariant.1 c.loop-at.invariant.0 c.pair_at-p.result c.pair_at-p.ensures (sym c.choose_own.ensures ∙ c.if-not-choose_own.false) c.if-p.true ∙ c.loop-at.invariant.2;
       inside = c.pair_at-p.ensures.inside;
     }
 
@@ -38,7 +34,7 @@ loop-at-smaller c =
 
 pub loop-at-preserved : goal.loop-at-preserved
 loop-at-preserved c =
-    (c.pair_at-p.ensures.rest, c.skip_snapshot-w.ensures.0, over-on c.args.s.now c.args.read (bound_of c.args.edge c.args.hi.now) c.loop-at.at c.args.end c.loop-at.w c.loop-at.invariant.1 c.loop-at.invariant.0 c.pair_at-p.result c.pair_at-p.ensures (sym c.choose_own.ensures ∙ not-false _ c.if-not-choose_own.false-raw) c.skip_snapshot-w.result c.skip_snapshot-w.ensures.1 c.if-p.false ∙ c.loop-at.invariant.2)
+    (c.pair_at-p.ensures.rest, c.skip_snapshot-w.ensures.0, over-on c.args.s.now c.args.read (bound_of c.args.edge c.args.hi.now) c.loop-at.at c.args.end c.loop-at.w c.loop-at.invariant.1 c.loop-at.invariant.0 c.pair_at-p.result c.pair_at-p.ensures (sym c.choose_own.ensures ∙ c.if-not-choose_own.false) c.skip_snapshot-w.result c.skip_snapshot-w.ensures.1 c.if-p.false ∙ c.loop-at.invariant.2)
 
 pub returns : goal.returns
 returns c =

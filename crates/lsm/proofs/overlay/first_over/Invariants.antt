@@ -1,11 +1,9 @@
-use Rattle.lsm.proofs.Scanning.{over_at, says-walk, over-end, over-stop, over-own, over-on}
-use Rattle.lsm.proofs.Basics.{not-true, not-false}
+use Rattle.lsm.proofs.Scanning.{over_at}
 use Rattle.lsm.specs.Overlay.{Standing}
 use Rattle.lsm.specs.Edges.{bound_of}
 use Rattle.lsm.specs.Pairs.{OwnAt}
 use Prim.Native.Nat.{◌-◌}
-use mathlib.Core.Path.{◌≡◌, refl, sym, ◌∙◌}
-use native.Mathlib.Omega.{arith}
+use mathlib.Core.Path.{◌≡◌}
 use Rattle.lsm.proofs.overlay.first_over.Given as goal
 
 abbrev pub invariant-loop-at : goal.invariant-loop-at

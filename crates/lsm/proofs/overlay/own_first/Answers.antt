@@ -4,7 +4,6 @@ use Rattle.lsm.specs.Pairs.{pair_at}
 use Rattle.lsm.specs.Overlay.{own_first_at}
 use mathlib.Core.Bool.{not}
 use mathlib.Core.Path.{ap, sym, ◌∙◌}
-use borrow.Author.Rules.{rules}
 use Rattle.lsm.proofs.overlay.own_first.Goals as goal
 
 pub returns-in-Found : goal.returns-in-Found

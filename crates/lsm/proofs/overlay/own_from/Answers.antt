@@ -1,9 +1,6 @@
 use Rattle.lsm.proofs.Scanning.{low-some, low-past, low-done}
-use Rattle.lsm.specs.Edges.{pair_from, bound_of}
-use Rattle.lsm.specs.Pairs.{OwnAt, own_in}
-use Rattle.paper.specs.Lists.{keep}
-use Prim.Native.Nat.{◌-◌}
-use mathlib.Core.Path.{◌≡◌, refl, sym, ◌∙◌}
+use Rattle.lsm.specs.Edges.{bound_of}
+use mathlib.Core.Path.{refl, sym, ◌∙◌}
 use native.Mathlib.Omega.{arith}
 use Rattle.lsm.proofs.overlay.own_from.Goals as goal
 

@@ -1,10 +1,8 @@
-use Rattle.lsm.proofs.Scanning.{low-some, low-past, low-done}
 use Rattle.lsm.specs.Edges.{pair_from, bound_of}
 use Rattle.lsm.specs.Pairs.{OwnAt, own_in}
 use Rattle.paper.specs.Lists.{keep}
 use Prim.Native.Nat.{◌-◌}
-use mathlib.Core.Path.{◌≡◌, refl, sym, ◌∙◌}
-use native.Mathlib.Omega.{arith}
+use mathlib.Core.Path.{◌≡◌}
 use Rattle.lsm.proofs.overlay.own_from.Given as goal
 
 abbrev pub invariant-loop-edge : goal.invariant-loop-edge

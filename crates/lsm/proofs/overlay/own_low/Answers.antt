@@ -4,7 +4,6 @@ use Rattle.lsm.specs.Pairs.{own_low}
 use mathlib.Core.Bool.{not}
 use mathlib.Core.Path.{ap, sym, ◌∙◌}
 use native.Mathlib.Omega.{arith}
-use borrow.Author.Rules.{rules}
 use Rattle.lsm.proofs.overlay.own_low.Goals as goal
 
 pub returns-then-at-end : goal.returns-then-at-end

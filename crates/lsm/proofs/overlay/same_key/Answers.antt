@@ -3,7 +3,6 @@ use Rattle.lsm.specs.Shown.{key_in}
 use Rattle.lsm.specs.Pairs.{pair_at}
 use Rattle.lsm.specs.Overlay.{same_key_at}
 use mathlib.Core.Path.{ap, sym, ◌∙◌}
-use borrow.Author.Rules.{rules}
 use Rattle.lsm.proofs.overlay.same_key.Goals as goal
 
 pub returns-in-Found : goal.returns-in-Found

@@ -2,7 +2,6 @@ use Rattle.lsm.proofs.Scanning.{passed-pair, past-other}
 use Rattle.lsm.specs.Edges.{bound_of}
 use Rattle.lsm.specs.Pairs.{pair_at}
 use mathlib.Core.Path.{sym, ◌∙◌}
-use borrow.Author.Rules.{rules}
 use Rattle.lsm.proofs.overlay.skip_snapshot.Goals as goal
 
 pub returns-then-same_key : goal.returns-then-same_key

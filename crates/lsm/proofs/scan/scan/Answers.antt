@@ -3,7 +3,6 @@ use Rattle.lsm.proofs.SeekLaws.{sought-order, sought-merge}
 use Rattle.lsm.specs.Views.{versions_in, writes_in, cursors_in}
 use Rattle.lsm.specs.Edges.{bound_of}
 use mathlib.Core.Path.{◌∙◌}
-use borrow.Author.Rules.{rules}
 use Rattle.lsm.proofs.scan.scan.Goals as goal
 
 pub heap_of-h-requires : goal.heap_of-h-requires

@@ -5,7 +5,7 @@ use Rattle.lsm.specs.Edges.{bound_of}
 use Rattle.merge.specs.Cursors.{nowhere, lawful}
 use Rattle.paper.specs.Lists.{all}
 use lib.ListN.{length, take, length-set}
-use Prim.Native.Nat.{ℕ, ◌≤◌, ◌-◌}
+use Prim.Native.Nat.{ℕ}
 use mathlib.Core.Path.{◌≡◌, refl, ◌∙◌, subst}
 use native.Mathlib.Omega.{arith}
 use Rattle.lsm.proofs.scan.seek_all.Goals as goal

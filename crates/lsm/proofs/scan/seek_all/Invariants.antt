@@ -1,13 +1,8 @@
-use Rattle.lsm.proofs.SeekLaws.{sought-more}
-use Rattle.merge.proofs.Weights.{all-at}
 use Rattle.lsm.specs.Seeking.{AllSought}
 use Rattle.lsm.specs.Edges.{bound_of}
-use Rattle.merge.specs.Cursors.{nowhere, lawful}
-use Rattle.paper.specs.Lists.{all}
-use lib.ListN.{length, take, length-set}
-use Prim.Native.Nat.{ℕ, ◌≤◌, ◌-◌}
-use mathlib.Core.Path.{◌≡◌, refl, ◌∙◌, subst}
-use native.Mathlib.Omega.{arith}
+use lib.ListN.{length, take}
+use Prim.Native.Nat.{◌≤◌, ◌-◌}
+use mathlib.Core.Path.{◌≡◌}
 use Rattle.lsm.proofs.scan.seek_all.Given as goal
 
 abbrev pub invariant-loop-i : goal.invariant-loop-i

@@ -2,7 +2,6 @@ use mathlib.Core.Path.{sym, ap, ◌∙◌}
 use native.Mathlib.Omega.{arith}
 use Rattle.lsm.specs.Seeking.{has_key}
 use Rattle.lsm.proofs.SeekLaws.{run_none, run-there, run_step}
-use borrow.Author.Rules.{rules}
 use Rattle.lsm.proofs.seek.has_key.Goals as goal
 
 pub returns-then-at-end : goal.returns-then-at-end

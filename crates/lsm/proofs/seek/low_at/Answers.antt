@@ -3,7 +3,6 @@ use Rattle.lsm.specs.declared.bounds.Edge.{Edge}
 use Rattle.lsm.specs.Edges.{bound_of}
 use Rattle.lsm.specs.Seeking.{LowAt}
 use Rattle.lsm.proofs.SeekLaws.{low-included, low-excluded, low-unbounded}
-use borrow.Author.Rules.{rules}
 use Rattle.lsm.proofs.seek.low_at.Goals as goal
 
 pub returns-in-Included : goal.returns-in-Included

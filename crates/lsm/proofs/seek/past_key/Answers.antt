@@ -1,7 +1,6 @@
 use mathlib.Core.Path.{refl, sym, ◌∙◌}
 use Rattle.lsm.specs.Seeking.{run_in, has_key}
 use Rattle.lsm.proofs.SeekLaws.{run-some, run-there, run_step, run-onward, key-past, key-off}
-use borrow.Author.Rules.{rules}
 use Rattle.lsm.proofs.seek.past_key.Goals as goal
 
 pub version_at-p-requires : goal.version_at-p-requires

@@ -5,7 +5,6 @@ use Rattle.raw.specs.Bytes.{part}
 use Rattle.key.proofs.Placing.{version-placed}
 use Rattle.merge.proofs.CursorLaws.{live-record}
 use Rattle.merge.proofs.HeapSteps.{root_live}
-use borrow.Author.Rules.{rules}
 use Rattle.lsm.proofs.walk.key_is.Goals as goal
 
 pub version_at-p-requires : goal.version_at-p-requires

@@ -1,8 +1,6 @@
-use Rattle.lsm.proofs.Walking.{turns, turn-less, coming-still}
+use Rattle.lsm.proofs.Walking.{turn-less, coming-still}
 use Rattle.lsm.specs.Edges.{bound_of}
-use Rattle.lsm.specs.Shown.{coming, Inside}
-use Rattle.merge.specs.Unread.{Sound}
-use mathlib.Core.Path.{◌≡◌, refl, sym, ◌∙◌}
+use mathlib.Core.Path.{refl, sym, ◌∙◌}
 use Rattle.lsm.proofs.walk.next_pair.Goals as goal
 
 pub resume-w-requires : goal.resume-w-requires

@@ -1,8 +1,8 @@
-use Rattle.lsm.proofs.Walking.{turns, turn-less, coming-still}
+use Rattle.lsm.proofs.Walking.{turns}
 use Rattle.lsm.specs.Edges.{bound_of}
 use Rattle.lsm.specs.Shown.{coming, Inside}
 use Rattle.merge.specs.Unread.{Sound}
-use mathlib.Core.Path.{◌≡◌, refl, sym, ◌∙◌}
+use mathlib.Core.Path.{◌≡◌}
 use Rattle.lsm.proofs.walk.next_pair.Given as goal
 
 abbrev pub invariant-loop-edge : goal.invariant-loop-edge

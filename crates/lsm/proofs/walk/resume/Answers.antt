@@ -1,6 +1,5 @@
 use Rattle.lsm.proofs.Walking.{resumed, stop-ended}
 use mathlib.Core.Path.{refl}
-use borrow.Author.Rules.{rules}
 use Rattle.lsm.proofs.walk.resume.Goals as goal
 
 pub returns-in-Looking : goal.returns-in-Looking
