@@ -17,7 +17,7 @@ use Rattle.settings.specs.declared.Shape.{Shape}
 use Rattle.overlay.specs.Overlay.{pairs_in}
 use Rattle.txn.specs.Place.{stride_of, used_at, own_start, own_end}
 use Rattle.txn.specs.declared.Rooms.{Rooms}
-use Rattle.txn.proofs.Holding.{Held, held, own-used, own_is, own_held, own-parts}
+use Rattle.txn.proofs.Holding.{Held, held, own-used, own_is, own_held_lem, own-parts}
 use Rattle.area.specs.Spread.{Sited, Spread}
 use Rattle.area.specs.declared.cursors.Runs.{Runs}
 use Rattle.lsm.specs.Pairs.{own_in, OwnAt, pairs, packed_pairs}
@@ -59,7 +59,7 @@ module _ (z : Shape) (b : Bytes) (o : octets b ≡ true) (at : ℕ) (t : TakenAt
       ap (part q own_start) f ∙ part-part b at z.stride own_start (at + 32 + n - (at + 32)) (omega (arith, own-inside))
 
   both : (packed_pairs (part q own_start (own_end q - own_start)) ≡ true) × (pairs (part q own_start (own_end q - own_start)) ≡ pairs_in (part q own_start (own_end q - own_start)))
-  both = own-packed (part q own_start (own_end q - own_start)) (octets-part q own_start (own_end q - own_start) y) (own-parts q (own_held r q l H)).1
+  both = own-packed (part q own_start (own_end q - own_start)) (octets-part q own_start (own_end q - own_start) y) (own-parts q (own_held_lem r q l H)).1
 
   own-there : OwnAt b (at + 32) (at + 32 + n)
   own-there = record { order = omega arith; inside = omega (arith, own-inside, t.inside); whole = ap packed_pairs (sym span) ∙ both.0 }
