@@ -55,23 +55,20 @@ module _ (w : Refusal) (r : ℕ) (n : r ≡ refusal_number w) (ns : List ℕ) wh
   unfolding cause_values
   causes-place place ms e g = (n, g ∙ noted_one place ns ∙ ap (λ (vs : List ℕ). noted vs ns) (⊎_elim (λ a. sym (ap cause_values a)) (λ a. sym (ap cause_values a)) e))
 
--- the refusals but those two, by their numbers among the enum's cases, have no values
-abbrev others : List ℕ
-others = 0 ∷ 1 ∷ 2 ∷ 3 ∷ 4 ∷ 5 ∷ 6 ∷ 7 ∷ 10 ∷ []
-
-pub others-none : (w : Given) → OneOf others (tag_of the_type w) → [] ≡ cause_values (refusal_of w)
+-- the refusals but those two have no values
+pub others-none : (w : Given) → ((n : ℕ) → w ≡ given.BadRun n → ⊥) → ((n : ℕ) → w ≡ given.ForeignRun n → ⊥) → [] ≡ cause_values (refusal_of w)
 unfolding cause_values
-others-none given.EmptyKey o = refl
-others-none given.TooLong o = refl
-others-none given.NoHandle o = refl
-others-none given.Closed o = refl
-others-none (given.NoRoom r) o = refl
-others-none (given.Conflict n h) o = refl
-others-none given.CounterFull o = refl
-others-none given.Unsound o = refl
-others-none (given.BadRun n) o = absurd (miss others 8 tt o)
-others-none (given.ForeignRun n) o = absurd (miss others 9 tt o)
-others-none given.BadSetting o = refl
+others-none given.EmptyKey bad other = refl
+others-none given.TooLong bad other = refl
+others-none given.NoHandle bad other = refl
+others-none given.Closed bad other = refl
+others-none (given.NoRoom r) bad other = refl
+others-none (given.Conflict n h) bad other = refl
+others-none given.CounterFull bad other = refl
+others-none given.Unsound bad other = refl
+others-none (given.BadRun n) bad other = absurd (bad n refl)
+others-none (given.ForeignRun n) bad other = absurd (other n refl)
+others-none given.BadSetting bad other = refl
 
 -- ---- a reply
 -- t is told by the number r, and the reply buffer went from ns to ms

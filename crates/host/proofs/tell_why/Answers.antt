@@ -8,9 +8,9 @@ use borrow.Author.Rules.{rules}
 use Rattle.host.proofs.tell_why.Goals as goal
 
 pub returns-in_default : goal.returns-in_default
-returns-in_default c =
-    causes-none (refusal_of c.args.why) _ c.number-number.ensures c.args.reply.now (others-none c.args.why c.in_default.keys3)
+returns-in_default c = causes-none (refusal_of c.args.why) _ c.number-number.ensures c.args.reply.now (others-none c.args.why c.in_default.not-BadRun c.in_default.not-ForeignRun)
 
 pub returns-in-BadRun : goal.returns-in-BadRun
 returns-in-BadRun c =
-    causes-place (refusal_of c.args.why) _ c.number-number.ensures c.args.reply.now c.in-BadRun.place _ (⊎_elim (λ x. inl (ap refusal_of x.1.given.1 ∙ ap bad_run (sym x.3))) (λ x. inr (ap refusal_of x.1.given.1 ∙ ap foreign_run (sym x.3))) c.in-BadRun.match-why-branch) c.note.ensures
+    causes-place (refusal_of c.args.why) _ c.number-number.ensures c.args.reply.now c.in-BadRun.place _
+        (elim c.in-BadRun.is [ inl e ↦ inl (ap refusal_of e) | inr e ↦ inr (ap refusal_of e) ]) c.note.ensures
