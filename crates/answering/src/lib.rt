@@ -1,5 +1,6 @@
 // The calls that read, on a sound state: get and scan. An answer is written to the out buffers, and its key's hash into the read set.
 #![tactic(auto)]
+
 ghost use Rattle.std.specs.Prelude.{◌≡◌, true, ◌-◌, ◌≤◌, ◌<◌, length};
 ghost use Rattle.std.proofs.Math.Option.{some};
 ghost use Rattle.paper.specs.Keys.{Bytes};

@@ -1,5 +1,6 @@
 // A commit on a sound state: 3, 4, 6, 7, 5, in this order, and then everything is written.
 #![tactic(auto)]
+
 ghost use Rattle.std.specs.Prelude.{◌≡◌, true, ◌+◌, ◌≤◌, length};
 ghost use Rattle.paper.specs.Keys.{Bytes};
 ghost use Rattle.paper.specs.Runs.{run_size};

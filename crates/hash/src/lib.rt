@@ -2,6 +2,7 @@
 // `farmhash::hash32` of the original. Paper's `hash_of` is the rule, and these functions are proved
 // equal to it.
 #![tactic(auto)]
+
 ghost use Rattle.std.specs.Prelude.{◌≡◌, ◌*◌, ◌%◌};
 ghost use Rattle.paper.specs.Hash.{fnv_step, hash_of};
 

@@ -1,6 +1,7 @@
 // The calls of crate store for hosts in Rust and C, on numbers and byte slices. Each returns document 01's number; the reply's values go into the lent
 // reply buffer, as many as it has room for. ngalovuki.h says the same in C.
 #![tactic(auto)]
+
 ghost use Rattle.std.specs.Prelude.{◌≡◌, List, ℕ, length, set};
 ghost use Rattle.paper.specs.Keys.{Bytes};
 ghost use Rattle.paper.specs.Refusals.{refusal_number};

@@ -1,5 +1,6 @@
 // Keys with their timestamps, and the versions in bytes that they order.
 #![tactic(auto)]
+
 ghost use Rattle.std.specs.Prelude.{◌≡◌, true, drop};
 ghost use Rattle.paper.specs.Lists.{is_some};
 ghost use Rattle.paper.specs.Keys.{cmp_version};

@@ -1,6 +1,7 @@
 // The history of commits in a lent buffer: its check, the opponent of a commit, and how an entry comes and others leave.
 // An entry is its number in 8 bytes, the size of its hashes in 8 bytes, and its hashes, 4 bytes each.
 #![tactic(auto)]
+
 ghost use Rattle.std.specs.Prelude.{◌≡◌, true, [], ◌∷◌, ◌++◌, length};
 ghost use Prim.Native.Nat.{◌+◌, ◌*◌, ◌-◌, ◌≤◌, compare};
 ghost use Rattle.paper.specs.Lists.{is_some, rises};

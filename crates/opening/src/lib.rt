@@ -1,5 +1,6 @@
 // The host's call `open`: a store is opened over whatever the lent memory holds, or refused without a byte changed.
 #![tactic(auto)]
+
 ghost use Rattle.std.specs.Prelude.{◌≡◌, true, ◌≤◌, length};
 ghost use Rattle.paper.specs.Keys.{Bytes};
 ghost use Rattle.paper.specs.Settings.{in_ranges, state_length};

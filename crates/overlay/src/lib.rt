@@ -1,6 +1,7 @@
 // The own writes of a transaction, packed in a part of a lent buffer: key length 2 bytes, key, value length 2 bytes,
 // value; the keys rise strictly. It takes the place of the original's `SkipMap`.
 #![tactic(auto)]
+
 ghost use Rattle.std.specs.Prelude.{◌≡◌, true, ◌++◌, ◌+◌, ◌-◌, ◌≤◌, ◌<◌, length};
 ghost use Rattle.paper.specs.Lists.{is_some, insert};
 ghost use Rattle.paper.specs.Keys.{cmp_pair};

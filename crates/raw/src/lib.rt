@@ -1,5 +1,6 @@
 // Bytes of a lent buffer: big-endian numbers, copies and moves, and the order of byte strings.
 #![tactic(auto)]
+
 ghost use Rattle.std.specs.Prelude.{◌≡◌, length, get_or};
 ghost use Prim.Native.Nat.{◌+◌, ◌≤◌, ◌<◌, compare};
 ghost use Rattle.paper.specs.Keys.{cmp_key};

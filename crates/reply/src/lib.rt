@@ -1,5 +1,6 @@
 // What each call of the host answers, as an enum by value. A refusal names its cause; `number` gives document 01's number for it.
 #![tactic(auto)]
+
 ghost use Rattle.std.specs.Prelude.{◌≡◌};
 ghost use Rattle.paper.specs.Refusals.{room_number, refusal_number};
 ghost use Rattle.reply.specs.Told.{room_of, refusal_of, told_number, told_settled, told_begun, told_got, told_scanned, told_committed};

@@ -1,5 +1,6 @@
 // The program `replay` as a function on slices: lines of a script in, lines of answers out, over an empty serializable store.
 #![tactic(auto)]
+
 ghost use Rattle.std.specs.Prelude.{◌≡◌, [], ℕ, ◌≤◌, length};
 ghost use Rattle.std.proofs.Math.Option.{some};
 ghost use Rattle.paper.specs.Keys.{Bytes};

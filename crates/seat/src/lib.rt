@@ -1,5 +1,6 @@
 // What every call on a sound state begins with: where its parts lie, and the transaction of a handle.
 #![tactic(auto)]
+
 ghost use Rattle.std.specs.Prelude.{◌≡◌, true};
 ghost use Rattle.layout.specs.Layout.{store_in, sound_state};
 ghost use Rattle.settings.specs.Shapes.{shape_of};

@@ -1,5 +1,6 @@
 // Transactions begun and ended, on a sound state.
 #![tactic(auto)]
+
 ghost use Rattle.std.specs.Prelude.{◌≡◌, true};
 ghost use Rattle.paper.specs.Keys.{Bytes};
 ghost use Rattle.paper.specs.Calls.{begun, Call};

@@ -1,5 +1,6 @@
 // Sets of hashes in a lent buffer: 4 bytes a hash, big-endian, strictly rising, so that none stands in a set twice.
 #![tactic(auto)]
+
 ghost use Rattle.std.specs.Prelude.{◌≡◌, true, length};
 ghost use Prim.Native.Nat.{◌+◌, ◌*◌, ◌≤◌, ◌<◌, compare};
 ghost use Rattle.paper.specs.Lists.{rises, insert, keep, first, among};

@@ -1,5 +1,6 @@
 // The opening settings: their ranges, the length of a state, where its parts lie, and the settings in its first 72 bytes.
 #![tactic(auto)]
+
 ghost use Rattle.std.specs.Prelude.{◌≡◌, true, ◌≤◌, ◌<◌, length};
 ghost use Rattle.std.proofs.Math.Option.{some};
 ghost use Rattle.paper.specs.Lists.{is_some};

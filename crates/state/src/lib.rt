@@ -1,6 +1,7 @@
 // The check of a whole state: total on every content of the lent memory, one pass over the used bytes.
 // 9, 'lent state breaks a state rule', is given exactly where it fails.
 #![tactic(auto)]
+
 ghost use Rattle.std.specs.Prelude.{◌≡◌, cond};
 ghost use Rattle.std.proofs.Math.Option.{some};
 ghost use Rattle.paper.specs.Lists.{hold_all};

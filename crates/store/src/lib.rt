@@ -1,6 +1,7 @@
 // The calls of the host over one lent buffer. Each but `open` first judges the whole state, 9, whatever the lent memory holds; then the call itself, which
 // may rely on a sound state. A contract says, on every input, what the reply tells and every byte of the lent buffers at exit.
 #![tactic(auto)]
+
 ghost use Rattle.std.specs.Prelude.{◌≡◌, length};
 ghost use Rattle.paper.specs.Keys.{Bytes};
 ghost use Rattle.paper.specs.Calls.{Call};

@@ -1,5 +1,6 @@
 // The store's reader table as it lies in the lent state, and the transactions' places by their first bytes: handle and read number.
 #![tactic(auto)]
+
 ghost use Rattle.std.specs.Prelude.{◌≡◌, true, ◌∷◌, ◌++◌, suc, ◌+◌, ◌*◌, ◌≤◌, ◌<◌, length, take, drop};
 ghost use Rattle.paper.specs.Lists.{is_some, among};
 ghost use Rattle.paper.specs.Readers.{row, add_reader, remove_reader, watermark};

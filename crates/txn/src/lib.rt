@@ -1,6 +1,7 @@
 // A transaction's place in the lent state: its handle, its read number, whether it is open, its own writes and its two
 // sets. It takes the place of the original's `Transaction`.
 #![tactic(auto)]
+
 ghost use Rattle.std.specs.Prelude.{◌≡◌, true, false, [], length};
 ghost use Rattle.std.proofs.Math.Option.{none, some};
 ghost use Prim.Native.Nat.{◌+◌, ◌*◌, ◌≤◌, ◌<◌, compare};

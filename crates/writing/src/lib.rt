@@ -1,5 +1,6 @@
 // The calls put and delete on a sound state: a value, or none, written at a key among its transaction's own writes.
 #![tactic(auto)]
+
 ghost use Rattle.std.specs.Prelude.{◌≡◌, true, ◌≤◌, length};
 ghost use Rattle.paper.specs.Keys.{Bytes};
 ghost use Rattle.paper.specs.Refusals.{Try};

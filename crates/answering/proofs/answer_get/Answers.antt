@@ -1,6 +1,5 @@
 -- The read set is looked at first; then the answer decides.
 use Rattle.answering.proofs.Resting.{get-full, get-fits, get_absent, span-in, get_present}
-use borrow.Author.Rules.{rules}
 use Rattle.answering.proofs.answer_get.Goals as goal
 
 pub returns-then-not-read_fits : goal.returns-then-not-read_fits
@@ -12,13 +11,12 @@ note_read-requires c =
     (c.requires.0, c.requires.1, get-fits c.args.shape c.args.state.now c.args.place c.args.hash c.args.out.now c.args.answer c.read_fits.result c.read_fits.ensures c.if-not-read_fits.false-raw)
 
 pub hand_value-requires : goal.hand_value-requires
-hand_value-requires c =
-    (
-      c.requires.0,
-      c.requires.1,
-      get-fits c.args.shape c.args.state.now c.args.place c.args.hash c.args.out.now c.args.answer c.read_fits.result c.read_fits.ensures c.if-not-read_fits.false-raw,
-      span-in c.args.shape c.args.state.now c.args.place c.args.hash c.args.out.now c.args.answer c.read_fits.result c.read_fits.ensures c.in-At.p c.in-At.is c.requires.2,
-    )
+hand_value-requires c = (
+  c.requires.0,
+  c.requires.1,
+  get-fits c.args.shape c.args.state.now c.args.place c.args.hash c.args.out.now c.args.answer c.read_fits.result c.read_fits.ensures c.if-not-read_fits.false-raw,
+  span-in c.args.shape c.args.state.now c.args.place c.args.hash c.args.out.now c.args.answer c.read_fits.result c.read_fits.ensures c.in-At.p c.in-At.is c.requires.2,
+)
 
 pub returns-in-End : goal.returns-in-End
 returns-in-End c =

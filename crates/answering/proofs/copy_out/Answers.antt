@@ -1,7 +1,6 @@
 -- What is copied stands in front.
 use Rattle.raw.proofs.Over.{over-front}
 use mathlib.Core.Path.{◌∙◌}
-use borrow.Author.Rules.{rules}
 use Rattle.answering.proofs.copy_out.Goals as goal
 
 pub returns : goal.returns

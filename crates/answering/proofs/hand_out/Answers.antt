@@ -4,7 +4,6 @@ use Rattle.paper.proofs.HashLaws.{hash-below}
 use Prim.Native.Nat.{ℕ, ◌<◌}
 use mathlib.Core.Path.{sym, subst}
 use native.Mathlib.Omega.{arith}
-use borrow.Author.Rules.{rules}
 use Rattle.answering.proofs.hand_out.Goals as goal
 
 pub returns-then-not-read_fits : goal.returns-then-not-read_fits

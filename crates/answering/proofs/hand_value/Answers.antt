@@ -1,7 +1,6 @@
 -- The out buffer is looked at before anything is written.
 use Rattle.answering.proofs.Resting.{value-short, value_out_lem}
 use native.Mathlib.Omega.{arith}
-use borrow.Author.Rules.{rules}
 use Rattle.answering.proofs.hand_value.Goals as goal
 
 pub returns-then-out-length : goal.returns-then-out-length

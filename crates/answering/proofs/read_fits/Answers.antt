@@ -1,6 +1,5 @@
 -- The place is lent by its two ends.
 use Rattle.answering.proofs.Placing.{lent-long, lent-steady, fits_told}
-use borrow.Author.Rules.{rules}
 use Rattle.answering.proofs.read_fits.Goals as goal
 
 pub read_fits-requires : goal.read_fits-requires

@@ -6,7 +6,6 @@ use Rattle.paper.specs.Keys.{octets}
 use mathlib.Core.Bool.{true}
 use mathlib.Core.Path.{◌≡◌}
 use native.Mathlib.Omega.{arith}
-use borrow.Author.Rules.{rules}
 use Rattle.answering.proofs.scan.Goals as goal
 
 pub view_of-view-requires : goal.view_of-view-requires

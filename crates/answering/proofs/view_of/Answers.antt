@@ -2,7 +2,6 @@
 use Rattle.answering.proofs.Viewing.{sited, own-inside, shows}
 use Rattle.raw.proofs.Octets.{octets-of}
 use native.Mathlib.Omega.{arith}
-use borrow.Author.Rules.{rules}
 use Rattle.answering.proofs.view_of.Goals as goal
 
 pub cursors_of-runs-requires : goal.cursors_of-runs-requires

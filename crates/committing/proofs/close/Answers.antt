@@ -1,5 +1,4 @@
 -- The mark is written.
-use borrow.Author.Rules.{rules}
 use Rattle.committing.proofs.close.Goals as goal
 
 pub returns : goal.returns

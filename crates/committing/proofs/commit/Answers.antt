@@ -1,6 +1,5 @@
 -- The handle's transaction, if it is open: without writes it is closed, else it is judged.
 use native.Mathlib.Omega.{arith}
-use borrow.Author.Rules.{rules}
 use mathlib.Core.Path.{◌≡◌, subst}
 use mathlib.Core.Bool.{true}
 use Prim.Native.Nat.{◌+◌, ◌≤◌, ◌<◌}

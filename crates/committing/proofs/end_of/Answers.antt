@@ -1,6 +1,5 @@
 -- The number in front, and as many bytes behind it.
 use native.Mathlib.Omega.{arith}
-use borrow.Author.Rules.{rules}
 use Rattle.committing.proofs.end_of.Goals as goal
 
 pub returns : goal.returns

@@ -1,6 +1,5 @@
 -- Somebody is in the way, and the transaction is closed; or nobody is.
 use native.Mathlib.Omega.{arith}
-use borrow.Author.Rules.{rules}
 use mathlib.Core.Path.{◌≡◌}
 use mathlib.Core.Bool.{true}
 use Rattle.paper.specs.Keys.{octets}

@@ -1,6 +1,5 @@
 -- A number, room in the history and room in the active run, in this order, and then all is written.
 use native.Mathlib.Omega.{arith}
-use borrow.Author.Rules.{rules}
 use mathlib.Core.Path.{◌≡◌, sym, ◌∙◌}
 use borrow.Author.Tests.{not-true, not-false}
 use mathlib.Core.Bool.{true}

@@ -1,6 +1,5 @@
 -- The records go behind their number of bytes, and then that number.
 use native.Mathlib.Omega.{arith}
-use borrow.Author.Rules.{rules}
 use Rattle.committing.proofs.Writing.{active-ready, active-written}
 use Rattle.committing.proofs.write_active.Goals as goal
 

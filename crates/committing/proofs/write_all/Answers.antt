@@ -1,6 +1,5 @@
 -- The history, the active run, the mark and the clock are written, one after the other.
 use native.Mathlib.Omega.{arith}
-use borrow.Author.Rules.{rules}
 use mathlib.Core.Path.{◌≡◌}
 use mathlib.Core.Bool.{true}
 use Rattle.paper.specs.Keys.{octets}

@@ -1,6 +1,5 @@
 -- An empty active run, too little room, or the run frozen.
 use native.Mathlib.Omega.{arith}
-use borrow.Author.Rules.{rules}
 use borrow.Author.Tests.{not-true, not-false}
 use mathlib.Core.Path.{sym, ◌∙◌}
 use Rattle.raw.proofs.Octets.{octets-of}

@@ -1,9 +1,6 @@
 -- `hash::hash32` meets its contract. The loop's invariant is `Hashing`: hashing the bytes that are left from `h` gives the key's hash. The measure is their number.
-use borrow.Author.Rules.{rules}
 use native.Mathlib.Omega.{arith}
-use Prim.Native.Nat.{◌-◌}
-use lib.ListN.{length}
-use Rattle.hash.proofs.Hashing.{Hashing, hashing-start, hashing-step, hashing-end}
+use Rattle.hash.proofs.Hashing.{hashing-start, hashing-step, hashing-end}
 use Rattle.hash.proofs.hash32.Goals as goal
 
 pub loop-i-init : goal.loop-i-init

@@ -1,7 +1,6 @@
 -- What the begin told is told by numbers.
 use Rattle.paper.specs.Calls.{Call}
 use Rattle.host.proofs.Calling.{numbers_on_lem}
-use borrow.Author.Rules.{rules}
 use Rattle.host.proofs.ngalovuki_begin.Goals as goal
 
 pub returns : goal.returns

@@ -1,7 +1,6 @@
 -- What the call told is told by its number.
 use Rattle.paper.specs.Calls.{Call}
 use Rattle.host.proofs.Calling.{number-on}
-use borrow.Author.Rules.{rules}
 use Rattle.host.proofs.ngalovuki_end.Goals as goal
 
 pub returns : goal.returns

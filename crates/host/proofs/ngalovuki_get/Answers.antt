@@ -1,7 +1,6 @@
 -- What the get told is told by numbers; the store has filled the out buffer.
 use Rattle.store.specs.Asked.{get_of}
 use Rattle.host.proofs.Calling.{numbers_on_lem}
-use borrow.Author.Rules.{rules}
 use Rattle.host.proofs.ngalovuki_get.Goals as goal
 
 pub returns : goal.returns

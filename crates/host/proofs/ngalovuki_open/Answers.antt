@@ -1,7 +1,6 @@
 -- Another mode is refused; else the settings are made, and what the opening told is told by numbers.
 use Rattle.host.specs.Numbers.{settings_by}
 use Rattle.host.proofs.Calling.{opened-not, opened-by}
-use borrow.Author.Rules.{rules}
 use Rattle.host.proofs.ngalovuki_open.Goals as goal
 
 pub returns-then-serializable-gt1 : goal.returns-then-serializable-gt1

@@ -2,7 +2,6 @@
 use Rattle.store.specs.Asked.{scan_of}
 use Rattle.host.specs.Numbers.{edge_by}
 use Rattle.host.proofs.Calling.{scan-by, scan-on}
-use borrow.Author.Rules.{rules}
 use Rattle.host.proofs.ngalovuki_scan.Goals as goal
 
 pub returns : goal.returns

@@ -1,6 +1,5 @@
 -- The number of the answer.
 use Rattle.host.proofs.Calling.{flag_is}
-use borrow.Author.Rules.{rules}
 use Rattle.host.proofs.ngalovuki_sound.Goals as goal
 
 pub returns-then-sound_state : goal.returns-then-sound_state

@@ -3,7 +3,6 @@ use borrow.Author.Tests.{not-true, not-false}
 use mathlib.Core.Path.{sym, ◌∙◌}
 use Rattle.host.specs.Numbers.{settings_by}
 use Rattle.host.proofs.Calling.{length-no-mode, length-out, length-in}
-use borrow.Author.Rules.{rules}
 use Rattle.host.proofs.ngalovuki_state_length.Goals as goal
 
 pub returns-then-serializable-gt1 : goal.returns-then-serializable-gt1

@@ -1,7 +1,6 @@
 -- The value is set where there is room for it.
 use lib.Seq.{set_out}
 use mathlib.Core.Path.{sym}
-use borrow.Author.Rules.{rules}
 use Rattle.host.proofs.note.Goals as goal
 
 pub returns-else-i-reply : goal.returns-else-i-reply

@@ -3,7 +3,6 @@ use mathlib.Core.Path.{refl, ap}
 use Rattle.reply.specs.Told.{told_number, told_scanned}
 use Rattle.host.specs.Numbers.{values_of}
 use Rattle.host.proofs.Telling.{tells-one, tells-three, tells-why}
-use borrow.Author.Rules.{rules}
 use Rattle.host.proofs.tell_scanned.Goals as goal
 
 pub returns-in-Pair : goal.returns-in-Pair

@@ -3,7 +3,6 @@ use mathlib.Core.Path.{refl, ap}
 use Rattle.reply.specs.Told.{told_number, told_settled}
 use Rattle.host.specs.Numbers.{values_of}
 use Rattle.host.proofs.Telling.{tells_none, tells-why}
-use borrow.Author.Rules.{rules}
 use Rattle.host.proofs.tell_settled.Goals as goal
 
 pub returns-in-Done : goal.returns-in-Done

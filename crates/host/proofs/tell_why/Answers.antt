@@ -1,10 +1,8 @@
 -- The refusal of an opening run writes its place; the others write nothing.
-use mathlib.Core.Path.{sym, ap, ◌∙◌}
-use mathlib.Core.Logic.{inl, inr, ⊎_elim}
-use Rattle.paper.specs.Refusals.{bad_run, foreign_run}
+use mathlib.Core.Path.{ap}
+use mathlib.Core.Logic.{inl, inr}
 use Rattle.reply.specs.Told.{refusal_of}
 use Rattle.host.proofs.Telling.{causes-none, causes-place, others-none}
-use borrow.Author.Rules.{rules}
 use Rattle.host.proofs.tell_why.Goals as goal
 
 pub returns-in_default : goal.returns-in_default
@@ -13,4 +11,4 @@ returns-in_default c = causes-none (refusal_of c.args.why) _ c.number-number.ens
 pub returns-in-BadRun : goal.returns-in-BadRun
 returns-in-BadRun c =
     causes-place (refusal_of c.args.why) _ c.number-number.ensures c.args.reply.now c.in-BadRun.place _
-        (elim c.in-BadRun.is [ inl e ↦ inl (ap refusal_of e) | inr e ↦ inr (ap refusal_of e) ]) c.note.ensures
+    (elim c.in-BadRun.is [ inl e ↦ inl (ap refusal_of e) | inr e ↦ inr (ap refusal_of e) ]) c.note.ensures

@@ -1,4 +1,4 @@
-use Rattle.std.proofs.Common.{arith, length-take, rules}
+use Rattle.std.proofs.Common.{arith, length-take}
 use Rattle.hostile.proofs.front.Goals as goal
 
 -- src/main.rt:269:9

@@ -1,4 +1,4 @@
-use Rattle.std.proofs.Common.{arith, length-take, rules}
+use Rattle.std.proofs.Common.{arith, length-take}
 use Rattle.images.proofs.front.Goals as goal
 
 pub slice_bounds-result-end : goal.slice_bounds-result-end

@@ -1,4 +1,4 @@
-use Rattle.std.proofs.Common.{◌≡◌, ◌-◌, length, rules}
+use Rattle.std.proofs.Common.{◌≡◌, ◌-◌, length}
 use Rattle.images.proofs.pairs.Given as goal
 
 abbrev pub invariant-loop-j : goal.invariant-loop-j

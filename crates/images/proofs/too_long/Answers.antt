@@ -1,4 +1,4 @@
-use Rattle.std.proofs.Common.{◌∙◌, rules}
+use Rattle.std.proofs.Common.{◌∙◌}
 use Rattle.images.proofs.too_long.Goals as goal
 
 pub shape_of-s : goal.shape_of-s

@@ -1,4 +1,4 @@
-use Rattle.std.proofs.Common.{◌≡◌, ◌-◌, length, rules}
+use Rattle.std.proofs.Common.{◌≡◌, ◌-◌, length}
 use Rattle.images.proofs.versions.Given as goal
 
 abbrev pub invariant-loop-v : goal.invariant-loop-v

@@ -2,7 +2,6 @@ use mathlib.Core.Path.{sym, ap, ◌∙◌}
 use Prim.Native.Nat.{ℕ, compare}
 use Rattle.raw.specs.Orders.{ordering}
 use Rattle.key.proofs.Placing.{by_parts}
-use borrow.Author.Rules.{rules}
 use Rattle.key.proofs.compare_version_with.Goals as goal
 
 pub returns-in-Less : goal.returns-in-Less

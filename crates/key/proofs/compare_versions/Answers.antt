@@ -1,6 +1,5 @@
 use mathlib.Core.Path.{◌∙◌}
 use Rattle.key.proofs.Placing.{stamped-at}
-use borrow.Author.Rules.{rules}
 use Rattle.key.proofs.compare_versions.Goals as goal
 
 pub returns : goal.returns

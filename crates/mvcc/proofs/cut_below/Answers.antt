@@ -1,10 +1,8 @@
 -- The invariant: what stays of the history is what stays of the entries from this place on.
-use Rattle.mvcc.proofs.Pruning.{Cutting, cut-start, cut-end, cut-stop, cut_on}
+use Rattle.mvcc.proofs.Pruning.{cut-start, cut-end, cut-stop, cut_on}
 use Rattle.mvcc.proofs.Entries.{whole, walk-there}
 use Rattle.raw.proofs.Octets.{octets-of}
-use Prim.Native.Nat.{◌-◌}
 use native.Mathlib.Omega.{arith}
-use borrow.Author.Rules.{rules}
 use Rattle.mvcc.proofs.cut_below.Goals as goal
 
 pub loop-from-init : goal.loop-from-init

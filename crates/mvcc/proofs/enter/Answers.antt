@@ -7,7 +7,6 @@ use Rattle.paper.specs.Keys.{Bytes}
 use mathlib.Core.Path.{ap, ◌∙◌}
 use Prim.Native.Nat.{ℕ, ◌+◌, ◌*◌, ◌-◌}
 use native.Mathlib.Omega.{arith}
-use borrow.Author.Rules.{rules}
 use Rattle.mvcc.proofs.enter.Goals as goal
 
 pub returns : goal.returns

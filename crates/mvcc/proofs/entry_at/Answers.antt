@@ -2,8 +2,6 @@
 use Rattle.mvcc.proofs.Entries.{entry-short, entry-long, entry-odd, entry_whole}
 use mathlib.Core.Path.{refl}
 use native.Mathlib.Omega.{arith}
-use borrow.Author.Rules.{rules}
-use borrow.Author.Rules.{rules}
 use Rattle.mvcc.proofs.entry_at.Goals as goal
 
 pub returns-then-room-lt16 : goal.returns-then-room-lt16

@@ -1,7 +1,6 @@
 -- What is kept and one entry more, against the two limits.
 use Rattle.mvcc.proofs.Pruning.{no-entry, no-hash, the_rest}
 use Rattle.mvcc.specs.Histories.{history_in}
-use borrow.Author.Rules.{rules}
 use Rattle.mvcc.proofs.fits.Goals as goal
 
 pub returns-then-entries-kept : goal.returns-then-entries-kept

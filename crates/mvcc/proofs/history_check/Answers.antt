@@ -1,9 +1,7 @@
 -- The invariant: the history keeps the rules where the entries from this place on keep what is left of them.
-use Rattle.mvcc.proofs.Checking.{Checking, check-start, check-wrong, check-room, check-on, check-end}
+use Rattle.mvcc.proofs.Checking.{check-start, check-wrong, check-room, check-on, check-end}
 use Rattle.mvcc.proofs.Entries.{whole}
-use Prim.Native.Nat.{◌-◌}
 use native.Mathlib.Omega.{arith}
-use borrow.Author.Rules.{rules}
 use Rattle.mvcc.proofs.history_check.Goals as goal
 
 pub loop-from-init : goal.loop-from-init

@@ -1,9 +1,6 @@
 -- The invariant: the history keeps the rules where the entries from this place on keep what is left of them.
-use Rattle.mvcc.proofs.Checking.{Checking, check-start, check-wrong, check-room, check-on, check-end}
-use Rattle.mvcc.proofs.Entries.{whole}
+use Rattle.mvcc.proofs.Checking.{Checking}
 use Prim.Native.Nat.{◌-◌}
-use native.Mathlib.Omega.{arith}
-use borrow.Author.Rules.{rules}
 use Rattle.mvcc.proofs.history_check.Given as goal
 
 abbrev pub invariant-loop-from : goal.invariant-loop-from

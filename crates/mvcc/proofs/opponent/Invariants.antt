@@ -1,12 +1,7 @@
 -- The invariant: the opponent in the history is the opponent in the entries from this place on.
-use Rattle.mvcc.proofs.Opposing.{Looking, look-start, look-end, look-rises, look_hit, look-on}
-use Rattle.mvcc.proofs.Entries.{whole, walk-there}
-use Rattle.sets.specs.Sets.{hashes_in, shared_hash}
-use Rattle.raw.proofs.Octets.{octets-of}
-use mathlib.Core.Path.{sym, ap, ◌∙◌}
+use Rattle.mvcc.proofs.Opposing.{Looking}
+use Rattle.sets.specs.Sets.{hashes_in}
 use Prim.Native.Nat.{◌-◌}
-use native.Mathlib.Omega.{arith}
-use borrow.Author.Rules.{rules}
 use Rattle.mvcc.proofs.opponent.Given as goal
 
 abbrev pub invariant-loop-from : goal.invariant-loop-from

@@ -3,7 +3,6 @@ use Rattle.mvcc.proofs.Opposing.{opposed, unopposed}
 use Rattle.sets.specs.Sets.{hashes_in}
 use Rattle.sets.proofs.Sharing.{both-swap}
 use mathlib.Core.Path.{◌∙◌}
-use borrow.Author.Rules.{rules}
 use Rattle.mvcc.proofs.opposition.Goals as goal
 
 pub returns-then-read-number : goal.returns-then-read-number

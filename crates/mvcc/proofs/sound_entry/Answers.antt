@@ -5,8 +5,6 @@ use Rattle.raw.proofs.Octets.{octets-of}
 use borrow.Author.Tests.{not-true, not-false}
 use mathlib.Core.Path.{sym, ◌∙◌}
 use native.Mathlib.Omega.{arith}
-use borrow.Author.Rules.{rules}
-use borrow.Author.Rules.{rules}
 use Rattle.mvcc.proofs.sound_entry.Goals as goal
 
 pub returns-then-not-may_follow : goal.returns-then-not-may_follow

@@ -1,8 +1,7 @@
 -- The invariant: the places passed are free, the other bytes are as they were, and the next place begins where it should.
-use Prim.Native.Nat.{◌-◌}
 use native.Mathlib.Omega.{arith}
 use Rattle.settings.specs.Opening.{settings_of}
-use Rattle.opening.proofs.Freeing.{Freeing, Next, none-freed, place-next, all-freed}
+use Rattle.opening.proofs.Freeing.{Next, none-freed, place-next, all-freed}
 use Rattle.opening.proofs.free_places.Goals as goal
 
 pub shape_of-shape-requires : goal.shape_of-shape-requires

@@ -1,8 +1,6 @@
 -- The invariant: the places passed are free, the other bytes are as they were, and the next place begins where it should.
 use Prim.Native.Nat.{◌-◌}
-use native.Mathlib.Omega.{arith}
-use Rattle.settings.specs.Opening.{settings_of}
-use Rattle.opening.proofs.Freeing.{Freeing, Next, none-freed, place-next, all-freed}
+use Rattle.opening.proofs.Freeing.{Freeing}
 use Rattle.opening.proofs.free_places.Given as goal
 
 abbrev pub invariant-loop-i : goal.invariant-loop-i

@@ -12,7 +12,6 @@ use Rattle.paper.specs.Room.{images_fit}
 use Rattle.paper.specs.Settings.{in_ranges}
 use Rattle.opening.specs.Opening.{Passed}
 use Rattle.opening.proofs.Ending.{ends-setting, ends-broken, ends_foreign, ends-area, ends-buffer, all-passed, ends-done}
-use borrow.Author.Rules.{rules}
 use Rattle.opening.proofs.open.Goals as goal
 
 pub returns-then-not-in_ranges : goal.returns-then-not-in_ranges

@@ -1,7 +1,6 @@
-use borrow.Author.Rules.{rules}
 use lib.ListN.{take}
 use native.Mathlib.Omega.{arith}
-use Prim.Native.Nat.{ℕ, ◌-◌, ◌≤◌}
+use Prim.Native.Nat.{ℕ, ◌-◌}
 use mathlib.Core.Bool.{true}
 use mathlib.Core.Path.{◌≡◌, sym, ap, ◌∙◌, subst}
 use Rattle.raw.proofs.Octets.{octets-of}
@@ -11,7 +10,7 @@ use Rattle.paper.specs.Lists.{is_lt}
 use Rattle.overlay.specs.declared.Read.{Read}
 use Rattle.overlay.specs.Entries.{span, ReadAt}
 use Rattle.overlay.specs.Overlay.{overlay_in}
-use Rattle.overlay.proofs.Checking.{Verdict, verdict-start, verdict-end, verdict-cut, verdict-low, verdict-next}
+use Rattle.overlay.proofs.Checking.{verdict-start, verdict-end, verdict-cut, verdict-low, verdict-next}
 use Rattle.overlay.proofs.check.Goals as goal
 
 pub loop-next-init : goal.loop-next-init

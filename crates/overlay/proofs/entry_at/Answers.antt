@@ -2,7 +2,6 @@ use Rattle.overlay.specs.Entries.{FieldAt}
 use Rattle.overlay.specs.declared.Field.{Field}
 use mathlib.Core.Path.{subst}
 use Rattle.overlay.proofs.Fields.{entry-there, entry-cut, entry-short}
-use borrow.Author.Rules.{rules}
 use Rattle.overlay.proofs.entry_at.Goals as goal
 
 pub field_at-requires-in-Until : goal.field_at-requires-in-Until

@@ -4,7 +4,6 @@ use mathlib.Core.Option.{some}
 use mathlib.Core.Path.{sym, ap, ◌∙◌}
 use native.Mathlib.Omega.{arith}
 use Rattle.overlay.proofs.Fields.{field-there, field-tiny, field-short}
-use borrow.Author.Rules.{rules}
 use Rattle.overlay.proofs.field_at.Goals as goal
 
 pub returns-then-end-at-lt2 : goal.returns-then-end-at-lt2
@@ -15,10 +14,9 @@ returns-then-end-start c =
     field-short c.args.s.now c.args.at c.args.end (omega arith) c.requires.1 (omega (arith, c.length_at-n.ensures.0))
 
 pub returns : goal.returns
-returns c =
-    (
-      omega arith,
-      omega arith,
-      field-there c.args.s.now c.args.at c.args.end (omega (arith, c.length_at-n.ensures.0)) c.requires.1
-          ∙ ap (λ (m : ℕ). some (span c.args.s.now (c.args.at + 2) (c.args.at + 2 + m), span c.args.s.now (c.args.at + 2 + m) c.args.end)) (sym c.length_at-n.ensures.0),
-    )
+returns c = (
+  omega arith,
+  omega arith,
+  field-there c.args.s.now c.args.at c.args.end (omega (arith, c.length_at-n.ensures.0)) c.requires.1
+      ∙ ap (λ (m : ℕ). some (span c.args.s.now (c.args.at + 2) (c.args.at + 2 + m), span c.args.s.now (c.args.at + 2 + m) c.args.end)) (sym c.length_at-n.ensures.0),
+)

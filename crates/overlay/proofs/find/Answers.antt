@@ -1,11 +1,9 @@
-use borrow.Author.Rules.{rules}
 use native.Mathlib.Omega.{arith}
-use Prim.Native.Nat.{◌-◌}
 use mathlib.Core.Path.{refl, sym, ap, ◌∙◌}
 use Rattle.raw.proofs.Octets.{octets-of}
 use Rattle.raw.specs.Orders.{ordering}
 use Rattle.overlay.specs.Overlay.{own_in, found_at}
-use Rattle.overlay.proofs.Finding.{Search, search-end, search-there, search-gap, search-hit, search-next}
+use Rattle.overlay.proofs.Finding.{search-end, search-there, search-gap, search-hit, search-next}
 use Rattle.overlay.proofs.find.Goals as goal
 
 pub loop-next-init : goal.loop-next-init

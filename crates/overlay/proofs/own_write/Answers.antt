@@ -2,7 +2,6 @@ use native.Mathlib.Omega.{arith}
 use mathlib.Core.Path.{sym, ◌∙◌}
 use Rattle.raw.proofs.Octets.{octets-of}
 use Rattle.overlay.proofs.Putting.{answer-hit, answer-miss}
-use borrow.Author.Rules.{rules}
 use Rattle.overlay.proofs.own_write.Goals as goal
 
 pub returns-in-At : goal.returns-in-At

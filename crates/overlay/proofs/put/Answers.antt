@@ -2,7 +2,6 @@ use native.Mathlib.Omega.{arith}
 use mathlib.Core.Path.{sym, ◌∙◌}
 use Rattle.raw.proofs.Octets.{octets-of}
 use Rattle.overlay.proofs.Putting.{Room, size_is, put_is, room-hit, room-miss}
-use borrow.Author.Rules.{rules}
 use Rattle.overlay.proofs.put.Goals as goal
 
 pub splice-requires : goal.splice-requires

@@ -9,7 +9,6 @@ use Rattle.paper.specs.Image.{big_endian}
 use Rattle.paper.specs.Keys.{Bytes}
 use Rattle.raw.proofs.Over.{over-after}
 use Rattle.raw.specs.Bytes.{over}
-use borrow.Author.Rules.{rules}
 use Rattle.overlay.proofs.put_entry.Goals as goal
 
 pub returns : goal.returns

@@ -2,7 +2,6 @@ use native.Mathlib.Omega.{arith}
 use mathlib.Core.Path.{sym, ◌∙◌}
 use Rattle.raw.proofs.Octets.{octets-of}
 use Rattle.overlay.proofs.Putting.{Room, size_is, room-hit, room-miss}
-use borrow.Author.Rules.{rules}
 use Rattle.overlay.proofs.size_after.Goals as goal
 
 pub overflow_sub-result-in-At : goal.overflow_sub-result-in-At

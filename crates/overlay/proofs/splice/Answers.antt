@@ -10,7 +10,6 @@ use Rattle.raw.specs.Bytes.{over}
 use Rattle.overlay.specs.Entries.{span}
 use Rattle.overlay.specs.Overlay.{pair}
 use Rattle.layout.proofs.Sizes.{pair-long}
-use borrow.Author.Rules.{rules}
 use Rattle.overlay.proofs.splice.Goals as goal
 
 pub returns : goal.returns

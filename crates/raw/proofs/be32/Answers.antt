@@ -1,6 +1,5 @@
 use Rattle.raw.proofs.Numbers.{number-parts}
 use native.Mathlib.Omega.{arith}
-use borrow.Author.Rules.{rules}
 use Rattle.raw.proofs.be32.Goals as goal
 
 pub returns : goal.returns

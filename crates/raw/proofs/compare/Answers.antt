@@ -1,9 +1,5 @@
 use Rattle.raw.proofs.Comparing.{key-less, key_more, key-on, key-longer, key-shorter, key-same}
-use Rattle.paper.specs.Keys.{cmp_key}
-use lib.ListN.{length, drop}
-use Prim.Native.Nat.{◌-◌, ◌≤◌}
-use mathlib.Core.Path.{◌≡◌, sym, ◌∙◌}
-use borrow.Author.Rules.{rules}
+use mathlib.Core.Path.{sym, ◌∙◌}
 use native.Mathlib.Omega.{arith}
 use Rattle.raw.proofs.compare.Goals as goal
 

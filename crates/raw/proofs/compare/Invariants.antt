@@ -1,10 +1,7 @@
-use Rattle.raw.proofs.Comparing.{key-less, key_more, key-on, key-longer, key-shorter, key-same}
 use Rattle.paper.specs.Keys.{cmp_key}
 use lib.ListN.{length, drop}
 use Prim.Native.Nat.{◌-◌, ◌≤◌}
-use mathlib.Core.Path.{◌≡◌, sym, ◌∙◌}
-use borrow.Author.Rules.{rules}
-use native.Mathlib.Omega.{arith}
+use mathlib.Core.Path.{◌≡◌}
 use Rattle.raw.proofs.compare.Given as goal
 
 abbrev pub invariant-loop-i : goal.invariant-loop-i

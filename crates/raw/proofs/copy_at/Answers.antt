@@ -3,10 +3,9 @@ use lib.ListN.{length-set}
 use Rattle.raw.proofs.Moves.{copy-turn}
 use Rattle.raw.proofs.Over.{over_none}
 use Rattle.raw.specs.Bytes.{over}
-use borrow.Author.Rules.{rules}
 use native.Mathlib.Omega.{arith}
 use mathlib.Core.Path.{◌≡◌, refl, ap, ◌∙◌}
-use Prim.Native.Nat.{ℕ, ◌-◌, ◌≤◌}
+use Prim.Native.Nat.{ℕ}
 use lib.ListN.{length, take}
 use Rattle.raw.proofs.copy_at.Goals as goal
 

@@ -1,7 +1,6 @@
 use Rattle.raw.proofs.Numbers.{two-stores}
 use lib.ListN.{length-set}
 use native.Mathlib.Omega.{arith}
-use borrow.Author.Rules.{rules}
 use Rattle.raw.proofs.put_be16.Goals as goal
 
 pub bounds-s-at-2 : goal.bounds-s-at-2

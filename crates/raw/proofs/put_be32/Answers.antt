@@ -5,7 +5,6 @@ use Rattle.paper.specs.Image.{big_endian}
 use Prim.Native.Nat.{◌+◌}
 use mathlib.Core.Path.{ap, ◌∙◌}
 use native.Mathlib.Omega.{arith}
-use borrow.Author.Rules.{rules}
 use Rattle.raw.proofs.put_be32.Goals as goal
 
 pub returns : goal.returns

@@ -2,11 +2,9 @@ use lib.ListN.{length-set}
 use Rattle.raw.proofs.Moves.{down_turn}
 use Rattle.raw.proofs.Over.{over_none}
 use Rattle.raw.specs.Bytes.{over, part}
-use borrow.Author.Rules.{rules}
 use native.Mathlib.Omega.{arith}
 use mathlib.Core.Path.{◌≡◌, refl, ap, ◌∙◌}
-use Prim.Native.Nat.{ℕ, ◌-◌, ◌≤◌}
-use lib.ListN.{length}
+use Prim.Native.Nat.{ℕ}
 use Rattle.raw.proofs.shift_down.Goals as goal
 
 pub loop-i-init : goal.loop-i-init

@@ -1,11 +1,6 @@
-use lib.ListN.{length-set}
-use Rattle.raw.proofs.Moves.{down_turn}
-use Rattle.raw.proofs.Over.{over_none}
 use Rattle.raw.specs.Bytes.{over, part}
-use borrow.Author.Rules.{rules}
-use native.Mathlib.Omega.{arith}
-use mathlib.Core.Path.{◌≡◌, refl, ap, ◌∙◌}
-use Prim.Native.Nat.{ℕ, ◌-◌, ◌≤◌}
+use mathlib.Core.Path.{◌≡◌}
+use Prim.Native.Nat.{◌-◌, ◌≤◌}
 use lib.ListN.{length}
 use Rattle.raw.proofs.shift_down.Given as goal
 

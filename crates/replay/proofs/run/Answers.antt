@@ -1,6 +1,5 @@
 -- What was shown ends within the buffer.
 use lib.ListN.{take}
-use borrow.Author.Rules.{rules}
 use Rattle.paper.specs.Replay.{replayed}
 use Rattle.replay.proofs.Within.{ends-within, taken}
 use Rattle.replay.proofs.run.Goals as goal

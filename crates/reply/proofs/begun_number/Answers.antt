@@ -2,7 +2,6 @@
 use mathlib.Core.Path.{sym, ap, ◌∙◌}
 use Rattle.reply.specs.Told.{told_number, told_begun}
 use Rattle.reply.specs.declared.Begun.{Begun}
-use borrow.Author.Rules.{rules}
 use Rattle.reply.proofs.begun_number.Goals as goal
 
 pub returns-in-Txn : goal.returns-in-Txn

@@ -2,7 +2,6 @@
 use mathlib.Core.Path.{sym, ap, ◌∙◌}
 use Rattle.reply.specs.Told.{told_number, told_committed}
 use Rattle.reply.specs.declared.Committed.{Committed}
-use borrow.Author.Rules.{rules}
 use Rattle.reply.proofs.committed_number.Goals as goal
 
 pub returns-in-Number : goal.returns-in-Number

@@ -2,7 +2,6 @@
 use mathlib.Core.Path.{sym, ap, ◌∙◌}
 use Rattle.reply.specs.Told.{told_number, told_got}
 use Rattle.reply.specs.declared.Got.{Got}
-use borrow.Author.Rules.{rules}
 use Rattle.reply.proofs.got_number.Goals as goal
 
 pub returns-in-Value : goal.returns-in-Value

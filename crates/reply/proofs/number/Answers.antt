@@ -3,7 +3,6 @@ use mathlib.Core.Path.{sym, ap, ◌∙◌}
 use Rattle.paper.specs.Refusals.{refusal_number}
 use Rattle.reply.specs.declared.Refusal.{Refusal}
 use Rattle.reply.specs.Told.{refusal_of}
-use borrow.Author.Rules.{rules}
 use Rattle.reply.proofs.number.Goals as goal
 
 pub returns-in-EmptyKey : goal.returns-in-EmptyKey

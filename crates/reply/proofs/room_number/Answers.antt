@@ -3,7 +3,6 @@ use mathlib.Core.Path.{sym, ap}
 use Rattle.paper.specs.Refusals.{room_number}
 use Rattle.reply.specs.declared.Room.{Room}
 use Rattle.reply.specs.Told.{room_of}
-use borrow.Author.Rules.{rules}
 use Rattle.reply.proofs.room_number.Goals as goal
 
 pub returns-in-Places : goal.returns-in-Places

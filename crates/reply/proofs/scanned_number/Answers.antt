@@ -2,7 +2,6 @@
 use mathlib.Core.Path.{sym, ap, ◌∙◌}
 use Rattle.reply.specs.Told.{told_number, told_scanned}
 use Rattle.reply.specs.declared.Scanned.{Scanned}
-use borrow.Author.Rules.{rules}
 use Rattle.reply.proofs.scanned_number.Goals as goal
 
 pub returns-in-Pair : goal.returns-in-Pair

@@ -2,7 +2,6 @@
 use mathlib.Core.Path.{sym, ap, ◌∙◌}
 use Rattle.reply.specs.Told.{told_number, told_settled}
 use Rattle.reply.specs.declared.Settled.{Settled}
-use borrow.Author.Rules.{rules}
 use Rattle.reply.proofs.settled_number.Goals as goal
 
 pub returns-in-Done : goal.returns-in-Done

@@ -1,7 +1,6 @@
 -- The call, and its answer, whose value stands in a buffer as long as the longest value.
 use Prim.Native.Nat.{ℕ}
 use lib.ListN.{replicate, length-replicate}
-use borrow.Author.Rules.{rules}
 use Rattle.script.proofs.Answers.{get-inside, get-answer}
 use Rattle.script.proofs.get.Goals as goal
 

@@ -2,7 +2,6 @@
 use native.Mathlib.Omega.{arith}
 use Prim.Native.Nat.{suc, ◌-◌, ◌≤◌}
 use lib.ListN.{length}
-use borrow.Author.Rules.{rules}
 use Rattle.paper.specs.Bounds.{excluded, unbounded}
 use Rattle.paper.specs.Calls.{Call}
 use Rattle.paper.specs.Settings.{longest}

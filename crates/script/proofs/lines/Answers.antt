@@ -1,10 +1,9 @@
 -- The loop's invariant: what was shown, and the lines that are left, make up the whole output. The measure is what is left of the input.
 use native.Mathlib.Omega.{arith}
-use mathlib.Core.Path.{◌≡◌, refl}
-use Prim.Native.Nat.{◌-◌, ◌≤◌}
+use mathlib.Core.Path.{refl}
+use Prim.Native.Nat.{◌≤◌}
 use lib.ListN.{length}
-use borrow.Author.Rules.{rules}
-use Rattle.script.proofs.Running.{Running, line-end, start, step, finish}
+use Rattle.script.proofs.Running.{line-end, start, step, finish}
 use Rattle.script.proofs.lines.Goals as goal
 
 pub loop-from-init : goal.loop-from-init

@@ -1,10 +1,8 @@
 -- The loop's invariant: what was shown, and the lines that are left, make up the whole output. The measure is what is left of the input.
-use native.Mathlib.Omega.{arith}
-use mathlib.Core.Path.{◌≡◌, refl}
-use Prim.Native.Nat.{◌-◌, ◌≤◌}
+use mathlib.Core.Path.{◌≡◌}
+use Prim.Native.Nat.{◌-◌}
 use lib.ListN.{length}
-use borrow.Author.Rules.{rules}
-use Rattle.script.proofs.Running.{Running, line-end, start, step, finish}
+use Rattle.script.proofs.Running.{Running}
 use Rattle.script.proofs.lines.Given as goal
 
 abbrev pub invariant-loop-from : goal.invariant-loop-from

@@ -1,5 +1,4 @@
 -- An opening without runs, over a buffer that is long enough.
-use borrow.Author.Rules.{rules}
 use Rattle.paper.specs.Replay.{replay_settings}
 use Rattle.reply.specs.Told.{told_settled}
 use Rattle.script.proofs.Opening.{opened_in}

@@ -1,5 +1,4 @@
 -- The call, and its answer.
-use borrow.Author.Rules.{rules}
 use Rattle.paper.specs.Calls.{Call}
 use Rattle.reply.specs.Told.{told_settled}
 use Rattle.script.proofs.Answers.{answer-plain, settled_plain}

@@ -2,7 +2,6 @@
 use mathlib.Core.Path.{ap, ◌∙◌}
 use Prim.Native.Nat.{ℕ}
 use lib.ListN.{replicate, length-replicate}
-use borrow.Author.Rules.{rules}
 use Rattle.printing.specs.Shown.{shown}
 use Rattle.script.proofs.Whole.{long-enough, too_long, run-whole}
 use Rattle.script.proofs.replay.Goals as goal

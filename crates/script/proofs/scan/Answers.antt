@@ -1,7 +1,6 @@
 -- The call, and its answer, whose key and value stand in buffers as long as the longest ones.
 use Prim.Native.Nat.{ℕ}
 use lib.ListN.{replicate, length-replicate}
-use borrow.Author.Rules.{rules}
 use Rattle.script.proofs.Answers.{scan-inside, scan-answer}
 use Rattle.script.proofs.scan.Goals as goal
 

@@ -1,6 +1,5 @@
 -- The handle's place is searched; what stands there says how its transaction is.
 use native.Mathlib.Omega.{arith}
-use borrow.Author.Rules.{rules}
 use Rattle.raw.proofs.Octets.{octets-of}
 use Rattle.seat.proofs.Finding.{shape-room, seat-zero, seat-missing, seat-inside, seat-open, seat-closed}
 use Rattle.seat.proofs.seat_of.Goals as goal

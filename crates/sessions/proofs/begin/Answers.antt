@@ -1,6 +1,5 @@
 -- A free place, a row for the reader and a next handle, in this order.
 use native.Mathlib.Omega.{arith}
-use borrow.Author.Rules.{rules}
 use Rattle.raw.proofs.Octets.{octets-of}
 use Rattle.seat.proofs.Finding.{shape-room}
 use Rattle.sessions.proofs.Beginning.{rows_inside, head-inside, rowed, no_place, no_row, most-readers, most-handles, may-begin, begins-told}

@@ -1,5 +1,4 @@
 -- The handle's transaction leaves, open or closed.
-use borrow.Author.Rules.{rules}
 use mathlib.Core.Path.{subst}
 use mathlib.Core.Bool.{true, false}
 use Rattle.layout.specs.Layout.{store_in}

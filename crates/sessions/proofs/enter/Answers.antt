@@ -1,6 +1,5 @@
 -- The counter, the place and the rows are written, one after the other.
 use native.Mathlib.Omega.{arith}
-use borrow.Author.Rules.{rules}
 use mathlib.Core.Path.{◌≡◌}
 use Prim.Native.Nat.{◌+◌, ◌<◌, ◌≤◌}
 use lib.ListN.{length}

@@ -10,7 +10,6 @@ use Rattle.raw.proofs.Octets.{octets-of}
 use lib.ListN.{drop}
 use mathlib.Core.Path.{◌≡◌, sym, ap, ◌∙◌}
 use native.Mathlib.Omega.{arith}
-use borrow.Author.Rules.{rules}
 use Rattle.sets.proofs.add_hash.Goals as goal
 
 pub insert_hash-requires : goal.insert_hash-requires

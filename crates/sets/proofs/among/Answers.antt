@@ -2,7 +2,6 @@
 use Rattle.sets.specs.Sets.{hashes_in}
 use Rattle.sets.proofs.Inserting.{found_at, found-gap}
 use mathlib.Core.Path.{sym, ◌∙◌}
-use borrow.Author.Rules.{rules}
 use Rattle.sets.proofs.among.Goals as goal
 
 pub returns-in-At : goal.returns-in-At

@@ -1,12 +1,7 @@
 -- The invariant: the hash stands from place low on and before place high, if it stands in the set.
-use Rattle.sets.proofs.Searching.{Search, search-start, search-up, search-down, search-hit, search-miss}
-use Rattle.sets.proofs.Risings.{apart}
-use Rattle.sets.proofs.Hashes.{length-hashes, hash-in}
+use Rattle.sets.proofs.Searching.{Search}
 use Rattle.sets.specs.Sets.{hashes_in}
-use lib.ListN.{get_or}
-use mathlib.Core.Path.{◌≡◌, sym, ◌∙◌}
-use Prim.Native.Nat.{ℕ, ◌+◌, ◌-◌, ◌/◌, ◌≤◌}
-use native.Mathlib.Omega.{arith}
+use Prim.Native.Nat.{◌-◌, ◌≤◌}
 use Rattle.sets.proofs.find_hash.Given as goal
 
 abbrev pub invariant-loop-low : goal.invariant-loop-low

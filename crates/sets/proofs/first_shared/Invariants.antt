@@ -1,9 +1,7 @@
 -- The invariant: the smallest hash in both sets is the smallest in what is left of the first one.
-use Rattle.sets.proofs.Sharing.{Shares, shares-no-more, shares-here, shares-next}
+use Rattle.sets.proofs.Sharing.{Shares}
 use Rattle.sets.specs.Sets.{hashes_in}
-use mathlib.Core.Path.{refl, sym, ◌∙◌}
 use Prim.Native.Nat.{◌-◌, ◌≤◌}
-use native.Mathlib.Omega.{arith}
 use Rattle.sets.proofs.first_shared.Given as goal
 
 abbrev pub invariant-loop-i : goal.invariant-loop-i

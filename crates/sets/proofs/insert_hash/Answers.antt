@@ -7,7 +7,6 @@ use Rattle.paper.specs.Keys.{Bytes}
 use mathlib.Core.Path.{ap, ◌∙◌}
 use Prim.Native.Nat.{◌+◌, ◌*◌, ◌≤◌}
 use native.Mathlib.Omega.{arith}
-use borrow.Author.Rules.{rules}
 use Rattle.sets.proofs.insert_hash.Goals as goal
 
 pub overflow_mul-place : goal.overflow_mul-place

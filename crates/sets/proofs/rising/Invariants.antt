@@ -1,7 +1,6 @@
 -- The invariant: the hashes rise where those from place i on rise from the last one passed.
-use Rattle.sets.proofs.Risings.{Pass, pos, none-rise, pass-start, pass_on, pass-stop, pass-end}
+use Rattle.sets.proofs.Risings.{Pass}
 use Prim.Native.Nat.{◌-◌, ◌≤◌}
-use native.Mathlib.Omega.{arith}
 use Rattle.sets.proofs.rising.Given as goal
 
 abbrev pub invariant-loop-i : goal.invariant-loop-i

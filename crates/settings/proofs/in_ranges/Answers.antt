@@ -4,7 +4,6 @@ use Rattle.paper.specs.Lists.{all}
 use Rattle.paper.specs.Settings.{ranges, in_ranges}
 use borrow.Author.Tests.{not-true, not-false}
 use mathlib.Core.Path.{sym, ◌∙◌}
-use borrow.Author.Rules.{rules}
 use Rattle.settings.proofs.in_ranges.Goals as goal
 
 pub returns-then-not-within : goal.returns-then-not-within

@@ -4,7 +4,6 @@ use Rattle.paper.specs.Lists.{is_some}
 use borrow.Author.Tests.{not-true, not-false}
 use mathlib.Core.Path.{sym, ap, ◌∙◌}
 use native.Mathlib.Omega.{arith}
-use borrow.Author.Rules.{rules}
 use Rattle.settings.proofs.settings_read.Goals as goal
 
 pub returns-then-state-lt72 : goal.returns-then-state-lt72

@@ -5,7 +5,6 @@ use Rattle.layout.specs.Codec.{put_all}
 use Rattle.raw.specs.Bytes.{over}
 use mathlib.Core.List.{[], ◌∷◌}
 use mathlib.Core.Path.{refl, ap, ◌∙◌}
-use borrow.Author.Rules.{rules}
 use Rattle.settings.proofs.settings_write.Goals as goal
 
 pub returns : goal.returns

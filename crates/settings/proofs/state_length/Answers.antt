@@ -1,7 +1,6 @@
 use Rattle.settings.proofs.Shapes.{shaped}
 use Rattle.settings.specs.Opening.{settings_of}
 use native.Mathlib.Omega.{arith}
-use borrow.Author.Rules.{rules}
 use Rattle.settings.proofs.state_length.Goals as goal
 
 pub overflow_mul-result : goal.overflow_mul-result

@@ -1,5 +1,4 @@
 -- The number in front of the history, then its entries.
-use borrow.Author.Rules.{rules}
 use native.Mathlib.Omega.{arith}
 use Rattle.settings.specs.Opening.{settings_of}
 use Rattle.state.proofs.Lying.{Lies, ranges-good, lies}

@@ -1,11 +1,9 @@
 -- The invariant: every place passed keeps its rules, and the next one begins where it should.
-use borrow.Author.Rules.{rules}
 use native.Mathlib.Omega.{arith}
 use Rattle.settings.specs.Opening.{settings_of}
 use Rattle.state.proofs.Lying.{Lies, ranges-good, lies, slice-long}
-use Rattle.state.proofs.Seats.{rooms-are, Seated, seat-told, none-seated, more-seated, seats-good, seats-bad}
+use Rattle.state.proofs.Seats.{rooms-are, seat-told, none-seated, more-seated, seats-good, seats-bad}
 use borrow.Author.Tests.{not-true, not-false}
-use Prim.Native.Nat.{◌+◌, ◌*◌, ◌-◌, ◌≤◌}
 use native.Mathlib.Nat.{suc-mul, zero-mul}
 use native.Mathlib.Numerals.{add-one}
 use mathlib.Core.Path.{◌≡◌, ◌∙◌}
@@ -52,13 +50,12 @@ overflow_add-i c =
     let h = here in omega (arith, h.few, c.loop-i-test.true)
 
 pub loop-i-preserved : goal.loop-i-preserved
-loop-i-preserved c =
-    (
-      omega (arith, c.loop-i-test.true),
-      rw (add-one, suc-mul) (omega (arith, c.loop-i.invariant.1)),
-      more-seated c.shape_of-shape.result _ c.args.counter c.args.clock c.args.state.now c.loop-i.i c.loop-i.invariant.2
-          (seat-told c.shape_of-shape.result _ c.args.counter c.args.clock c.args.state.now c.loop-i.i c.loop-i.at c.loop-i.invariant.1 c.place_check.result c.place_check.ensures ∙ not-false _ c.if-not-place_check.false-raw),
-    )
+loop-i-preserved c = (
+  omega (arith, c.loop-i-test.true),
+  rw (add-one, suc-mul) (omega (arith, c.loop-i.invariant.1)),
+  more-seated c.shape_of-shape.result _ c.args.counter c.args.clock c.args.state.now c.loop-i.i c.loop-i.invariant.2
+      (seat-told c.shape_of-shape.result _ c.args.counter c.args.clock c.args.state.now c.loop-i.i c.loop-i.at c.loop-i.invariant.1 c.place_check.result c.place_check.ensures ∙ not-false _ c.if-not-place_check.false-raw),
+)
 
 pub returns : goal.returns
 returns c =

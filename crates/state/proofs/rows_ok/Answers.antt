@@ -1,5 +1,4 @@
 -- The rows lie between byte 88 and the history.
-use borrow.Author.Rules.{rules}
 use native.Mathlib.Omega.{arith}
 use Rattle.settings.specs.Opening.{settings_of}
 use Rattle.state.proofs.Lying.{Lies, ranges-good, lies}

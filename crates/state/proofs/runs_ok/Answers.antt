@@ -1,5 +1,4 @@
 -- Each of the two checks says what its part is; where both are good, the tie decides.
-use borrow.Author.Rules.{rules}
 use native.Mathlib.Omega.{arith}
 use Rattle.settings.specs.Opening.{settings_of}
 use Rattle.area.proofs.Checked.{ActiveSays, AreaSays}

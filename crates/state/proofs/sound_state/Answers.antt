@@ -1,5 +1,4 @@
 -- The settings in front decide whether the rest can be looked at.
-use borrow.Author.Rules.{rules}
 use native.Mathlib.Omega.{arith}
 use Rattle.settings.specs.Opening.{answered}
 use Rattle.raw.proofs.Octets.{octets-of}

@@ -1,5 +1,4 @@
 -- The check, and then the call on a sound state.
-use borrow.Author.Rules.{rules}
 use borrow.Author.Tests.{not-true, not-false}
 use mathlib.Core.Path.{refl, sym, ◌∙◌}
 use Rattle.paper.specs.Calls.{Call}

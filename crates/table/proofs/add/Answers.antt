@@ -9,7 +9,6 @@ use Rattle.raw.proofs.Octets.{octets-of}
 use Rattle.table.specs.Rows.{rows_in, Rowed, spot_of}
 use Rattle.table.specs.declared.Spot.TheVariants.{Here, Gap}
 use Rattle.table.proofs.RowSpots.{here-within, here-more, here-add, gap-holds, gap-room, gap-add}
-use borrow.Author.Rules.{rules}
 use Rattle.table.proofs.add.Goals as goal
 
 pub overflow_mul-k : goal.overflow_mul-k

@@ -10,7 +10,6 @@ use Rattle.table.specs.Rows.{rows_in, Rowed, spot_of}
 use Rattle.table.specs.declared.Spot.TheVariants.{Here, Gap}
 use Rattle.table.specs.declared.RowCheck.TheVariants.{Fine, Most}
 use Rattle.table.proofs.RowSpots.{here-check, here-fits, gap-holds, gap-full, gap-fine}
-use borrow.Author.Rules.{rules}
 use Rattle.table.proofs.check.Goals as goal
 
 pub overflow_mul-n : goal.overflow_mul-n

@@ -1,9 +1,8 @@
 -- The invariant: the handles of all places are distinct where those of the places that are left are.
-use Prim.Native.Nat.{ℕ, ◌+◌, ◌*◌, ◌-◌, ◌≤◌}
+use Prim.Native.Nat.{ℕ, ◌+◌, ◌*◌, ◌-◌}
 use native.Mathlib.Omega.{arith}
 use mathlib.Core.Path.{◌≡◌, refl, sym, ap, ◌∙◌}
 use mathlib.Core.Bool.{true, false}
-use borrow.Author.Rules.{rules}
 use Rattle.paper.specs.Lists.{among}
 use Rattle.paper.specs.Sound.{distinct}
 use Rattle.table.specs.Places.{tag_at, handles_in}

@@ -3,7 +3,6 @@ use mathlib.Core.Path.{◌≡◌, ap, ◌∙◌}
 use native.Mathlib.Omega.{arith}
 use Rattle.raw.proofs.Octets.{octets-of}
 use Rattle.table.proofs.RowBytes.{region, dropped, gone}
-use borrow.Author.Rules.{rules}
 use Rattle.table.proofs.drop_row.Goals as goal
 
 pub returns : goal.returns

@@ -1,10 +1,9 @@
 -- The invariant: no place passed has the tag.
-use Prim.Native.Nat.{◌+◌, ◌*◌, ◌-◌, ◌≤◌}
+use Prim.Native.Nat.{◌+◌, ◌*◌}
 use native.Mathlib.Nat.{suc-mul, zero-mul}
 use native.Mathlib.Numerals.{add-one}
 use native.Mathlib.Omega.{arith}
 use mathlib.Core.Path.{◌≡◌, sym, ap, ◌∙◌, subst}
-use borrow.Author.Rules.{rules}
 use borrow.Author.Count.{below_more, below_none}
 use Rattle.table.specs.Places.{tag_at}
 use Rattle.table.specs.declared.Found.TheVariants.{At}

@@ -4,7 +4,6 @@ use Prim.Native.Nat.{ℕ}
 use native.Mathlib.Omega.{arith}
 use Rattle.raw.proofs.Octets.{octets-of}
 use Rattle.table.proofs.RowBytes.{region, inserted, come}
-use borrow.Author.Rules.{rules}
 use Rattle.table.proofs.insert_row.Goals as goal
 
 pub returns : goal.returns

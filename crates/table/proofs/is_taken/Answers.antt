@@ -1,7 +1,6 @@
 -- A handle is among those of the places where the search finds it.
 use mathlib.Core.Path.{sym, ap, ◌∙◌}
 use Rattle.table.proofs.Tags.{is_at, taken-found}
-use borrow.Author.Rules.{rules}
 use Rattle.table.proofs.is_taken.Goals as goal
 
 pub returns-in-At : goal.returns-in-At

@@ -9,7 +9,6 @@ use Rattle.raw.proofs.Octets.{octets-of}
 use Rattle.table.specs.Rows.{rows_in, Rowed, spot_of}
 use Rattle.table.specs.declared.Spot.TheVariants.{Here}
 use Rattle.table.proofs.RowSpots.{here-within, here-holds, here-last, here-less, gap-remove}
-use borrow.Author.Rules.{rules}
 use Rattle.table.proofs.remove.Goals as goal
 
 pub drop_row-requires : goal.drop_row-requires

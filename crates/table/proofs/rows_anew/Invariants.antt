@@ -1,19 +1,10 @@
 -- The invariant: the buffer has the rows of the places from i on, laid over what it had.
-use borrow.Author.Rules.{rules}
-use native.Mathlib.Omega.{arith}
-use Prim.Native.Nat.{ℕ, suc, ◌+◌, ◌*◌, ◌-◌, ◌^◌, ◌<◌, ◌≤◌}
-use mathlib.Core.Path.{◌≡◌, refl, sym, ap, ◌∙◌}
-use mathlib.Core.List.{List, [], ◌∷◌}
+use Prim.Native.Nat.{◌+◌, ◌*◌, ◌≤◌}
+use mathlib.Core.Path.{◌≡◌}
 use lib.ListN.{length}
-use Rattle.paper.specs.Keys.{Bytes}
-use Rattle.paper.specs.Readers.{Row}
 use Rattle.paper.specs.Store.{rows_of}
-use Rattle.raw.proofs.Octets.{octets-of}
-use Rattle.layout.proofs.Streams.{All}
 use Rattle.table.specs.Rows.{lay_rows}
-use Rattle.table.specs.Places.{reads_in}
-use Rattle.table.proofs.Tags.{step, reads_from, reads_none, reads_all, reads-few, reads-fields, reads-free, reads-taken}
-use Rattle.table.proofs.RowsAnew.{lay-zero, lay-again, lay-long, none_rows, made-rowed, made-fine, made_more}
+use Rattle.table.proofs.Tags.{reads_from}
 use Rattle.table.proofs.rows_anew.Given as goal
 
 abbrev pub invariant-loop-i : goal.invariant-loop-i

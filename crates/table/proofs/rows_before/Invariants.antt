@@ -1,12 +1,8 @@
 -- The invariant: each of the k rows passed is before t.
-use borrow.Author.Count.{below_more, below_none}
-use native.Mathlib.Omega.{arith}
 use Prim.Native.Nat.{◌-◌, ◌≤◌}
-use Rattle.raw.proofs.Octets.{octets-of}
 use Rattle.table.specs.Rows.{rows_in}
-use Rattle.table.proofs.RowLaws.{Below, before-is}
-use Rattle.table.proofs.RowBytes.{Region, region, time-at}
-use borrow.Author.Rules.{rules}
+use Rattle.table.proofs.RowLaws.{Below}
+use Rattle.table.proofs.RowBytes.{region}
 use Rattle.table.proofs.rows_before.Given as goal
 
 abbrev pub invariant-loop-k : goal.invariant-loop-k

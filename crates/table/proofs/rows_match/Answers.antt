@@ -18,7 +18,6 @@ use Rattle.table.specs.Places.{reads_in}
 use Rattle.table.proofs.Tags.{reads-long, reads_fit}
 use Rattle.table.proofs.RowBytes.{RowsFit}
 use Rattle.table.proofs.RowsAnew.{lay-read, lay-front, rows-some, reads-fit-rows, match-short, match-front}
-use borrow.Author.Rules.{rules}
 use Rattle.table.proofs.rows_match.Goals as goal
 
 pub rows_end-end-requires : goal.rows_end-end-requires

@@ -4,7 +4,6 @@ use mathlib.Core.Path.{ap, ◌∙◌}
 use Prim.Native.Nat.{ℕ, ◌%◌}
 use lib.Dec.{eqb}
 use Rattle.table.proofs.RowsRead.{unread-short, unread-past, read_whole}
-use borrow.Author.Rules.{rules}
 use Rattle.table.proofs.rows_read.Goals as goal
 
 pub returns-then-region-lt8 : goal.returns-then-region-lt8

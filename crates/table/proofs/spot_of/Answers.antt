@@ -13,7 +13,6 @@ use Rattle.table.specs.declared.Spot.TheVariants.{Here, Gap}
 use Rattle.table.proofs.RowLaws.{spot-here, spot-gap}
 use Rattle.table.proofs.RowBytes.{Region, time-at, count_at_lem}
 use Rattle.table.proofs.RowSpots.{ground, used-of, holds}
-use borrow.Author.Rules.{rules}
 use Rattle.table.proofs.spot_of.Goals as goal
 
 pub be64-requires : goal.be64-requires

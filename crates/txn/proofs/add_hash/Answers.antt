@@ -12,7 +12,6 @@ use Rattle.layout.proofs.Sizes.{hashes-form}
 use Rattle.layout.specs.Codec.{num, many}
 use Rattle.txn.proofs.Reading.{listed-laid}
 use Rattle.txn.proofs.Holding.{set-parts}
-use borrow.Author.Rules.{rules}
 use Rattle.txn.proofs.add_hash.Goals as goal
 
 pub add_hash-count-requires : goal.add_hash-count-requires

@@ -14,7 +14,6 @@ use Rattle.paper.specs.Keys.{octets}
 use Rattle.layout.specs.Layout.{hashes_stream}
 use Rattle.txn.proofs.Changing.{read-added, read_kept, read-room}
 use Rattle.txn.proofs.Holding.{Held, held, reads_held}
-use borrow.Author.Rules.{rules}
 use Rattle.txn.proofs.add_read.Goals as goal
 
 pub add_hash-requires : goal.add_hash-requires

@@ -4,7 +4,6 @@ use Rattle.paper.specs.Image.{big_endian}
 use Rattle.paper.specs.Keys.{Bytes}
 use Rattle.raw.specs.Bytes.{over}
 use Rattle.txn.proofs.Changing.{new_is}
-use borrow.Author.Rules.{rules}
 use Rattle.txn.proofs.new_place.Goals as goal
 
 pub returns : goal.returns

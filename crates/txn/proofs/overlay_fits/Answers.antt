@@ -8,7 +8,6 @@ use Rattle.paper.specs.Keys.{cmp_pair}
 use Rattle.paper.specs.Lists.{insert}
 use Rattle.overlay.specs.Overlay.{pair, own_in, overlay_in}
 use Rattle.txn.proofs.Holding.{own-parts}
-use borrow.Author.Rules.{rules}
 use Rattle.txn.proofs.overlay_fits.Goals as goal
 
 pub overflow_add-end : goal.overflow_add-end

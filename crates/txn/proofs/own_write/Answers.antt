@@ -4,7 +4,6 @@ use mathlib.Core.Path.{ap, ◌∙◌, subst}
 use Rattle.txn.specs.Place.{own_start}
 use Rattle.overlay.specs.Overlay.{overlay_in, Answered}
 use Rattle.txn.proofs.Holding.{own-parts}
-use borrow.Author.Rules.{rules}
 use Rattle.txn.proofs.own_write.Goals as goal
 
 pub overflow_add-end : goal.overflow_add-end

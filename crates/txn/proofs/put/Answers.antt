@@ -15,7 +15,6 @@ use Rattle.overlay.specs.Overlay.{pair}
 use Rattle.layout.specs.Layout.{hashes_stream}
 use Rattle.txn.proofs.Changing.{own_room, same-long, write-held, write-room, put-added, put-kept}
 use Rattle.txn.proofs.Holding.{Held, held, own_held_lem}
-use borrow.Author.Rules.{rules}
 use Rattle.txn.proofs.put.Goals as goal
 
 pub put_own-requires : goal.put_own-requires

@@ -14,7 +14,6 @@ use Rattle.layout.specs.Codec.{many, put_all}
 use Rattle.overlay.specs.Overlay.{pair, own_in, overlay_in}
 use Rattle.txn.proofs.Reading.{listed-laid}
 use Rattle.txn.proofs.Holding.{own-parts}
-use borrow.Author.Rules.{rules}
 use Rattle.txn.proofs.put_own.Goals as goal
 
 pub overflow_add-end : goal.overflow_add-end
@@ -22,8 +21,7 @@ overflow_add-end c = let h = own-parts c.args.place.now c.requires.1 in omega (a
 
 pub put-size-requires : goal.put-size-requires
 put-size-requires c =
-    let h = own-parts c.args.place.now c.requires.1 in
-    (
+    let h = own-parts c.args.place.now c.requires.1 in (
       omega arith,
       omega (arith, h.0, c.used_at-end.ensures),
       ap (λ (n : ℕ). overlay_in c.args.place.now own_start (own_start + n)) c.used_at-end.ensures ∙ h.1,

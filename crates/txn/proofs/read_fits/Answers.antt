@@ -9,7 +9,6 @@ use Rattle.raw.proofs.Octets.{octets-of}
 use Rattle.paper.specs.Room.{set_fits}
 use Rattle.paper.specs.Store.{set_add}
 use Rattle.txn.proofs.Holding.{held, reads-there, reads_held}
-use borrow.Author.Rules.{rules}
 use Rattle.txn.proofs.read_fits.Goals as goal
 
 pub set_fits-requires : goal.set_fits-requires

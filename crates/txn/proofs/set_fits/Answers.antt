@@ -12,7 +12,6 @@ use Rattle.paper.specs.Store.{set_add}
 use Rattle.paper.specs.Lists.{rises, among}
 use Rattle.txn.proofs.Changing.{fits-other, fits-room, fits-full}
 use Rattle.txn.proofs.Holding.{set-parts}
-use borrow.Author.Rules.{rules}
 use Rattle.txn.proofs.set_fits.Goals as goal
 
 pub returns-then-not-serializable : goal.returns-then-not-serializable

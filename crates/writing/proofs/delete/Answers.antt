@@ -1,5 +1,4 @@
 -- A deletion is a put of the empty value.
-use borrow.Author.Rules.{rules}
 use Rattle.writing.proofs.Telling.{told-deleted}
 use Rattle.writing.proofs.delete.Goals as goal
 

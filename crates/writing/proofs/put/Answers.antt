@@ -1,5 +1,4 @@
 -- The handle's transaction, then the lengths, then the write in its place: each return is one of the paper's.
-use borrow.Author.Rules.{rules}
 use native.Mathlib.Omega.{arith}
 use mathlib.Core.Path.{◌≡◌}
 use mathlib.Core.Bool.{true}

@@ -1,5 +1,4 @@
 -- The place is written where there is room, and stays as it is where there is none.
-use borrow.Author.Rules.{rules}
 use Rattle.writing.proofs.Placing.{hash-small, write-refused, write-room, write_done}
 use Rattle.writing.proofs.write.Goals as goal
 

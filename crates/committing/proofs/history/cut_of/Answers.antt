@@ -1,6 +1,5 @@
 -- The walk over the history stops at the first entry that is at or above the watermark.
 use native.Mathlib.Omega.{arith}
-use borrow.Author.Rules.{rules}
 use Rattle.raw.proofs.Octets.{octets-of}
 use Rattle.committing.proofs.Histories.{cut-ready, cut-told}
 use Rattle.committing.proofs.history.cut_of.Goals as goal

@@ -1,6 +1,5 @@
 -- What stays is moved to the front, the new entry stands behind it, and the number of their bytes is written; in the other mode nothing is.
 use native.Mathlib.Omega.{arith}
-use borrow.Author.Rules.{rules}
 use mathlib.Core.Path.{◌≡◌, ◌∙◌}
 use mathlib.Core.Bool.{true}
 use Rattle.paper.specs.Keys.{octets}

@@ -1,6 +1,5 @@
 -- The number in front of the history says how many bytes its entries take.
 use native.Mathlib.Omega.{arith}
-use borrow.Author.Rules.{rules}
 use Rattle.raw.proofs.Octets.{octets-of}
 use Rattle.committing.proofs.Histories.{Room, history-room}
 use Rattle.committing.proofs.history.history_end.Goals as goal

@@ -1,6 +1,5 @@
 -- In serializable mode the room for one entry more is asked behind what stays; in the other mode the history stays empty.
 use native.Mathlib.Omega.{arith}
-use borrow.Author.Rules.{rules}
 use borrow.Author.Tests.{not-true, not-false}
 use mathlib.Core.Path.{◌≡◌}
 use mathlib.Core.Bool.{true}

@@ -1,6 +1,5 @@
 -- The read set's hashes and the read number are handed to the walk over the history.
 use native.Mathlib.Omega.{arith}
-use borrow.Author.Rules.{rules}
 use mathlib.Core.Path.{◌≡◌}
 use mathlib.Core.Bool.{true}
 use Rattle.paper.specs.Keys.{octets}

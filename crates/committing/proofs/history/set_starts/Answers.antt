@@ -1,6 +1,5 @@
 -- One after the other behind the own writes.
 use native.Mathlib.Omega.{arith}
-use mathlib.Core.Path.{refl}
 use Rattle.committing.proofs.history.set_starts.Goals as goal
 
 pub overflow_add-reads : goal.overflow_add-reads

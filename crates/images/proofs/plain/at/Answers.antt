@@ -1,4 +1,4 @@
-use Rattle.std.proofs.Common.{arith, rules}
+use Rattle.std.proofs.Common.{arith}
 use Rattle.images.proofs.plain.at.Goals as goal
 
 pub overflow_cast-result : goal.overflow_cast-result

@@ -1,4 +1,4 @@
-use Rattle.std.proofs.Common.{◌-◌, subst, arith, rules}
+use Rattle.std.proofs.Common.{◌-◌, subst, arith}
 use Rattle.raw.specs.Bytes.{part}
 use Rattle.run.specs.declared.image.Checked.{Checked}
 use Rattle.run.proofs.Told.{Says, says_of}

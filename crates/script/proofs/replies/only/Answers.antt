@@ -1,5 +1,4 @@
 -- The number, and the LF behind it.
-use borrow.Author.Rules.{rules}
 use Rattle.paper.specs.Replay.{decimal_of}
 use Rattle.script.proofs.Showing.{one_field}
 use Rattle.script.proofs.replies.only.Goals as goal

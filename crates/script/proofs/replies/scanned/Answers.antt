@@ -1,5 +1,4 @@
 -- By the cases of the reply; key and value read off lie within their buffers.
-use borrow.Author.Rules.{rules}
 use Rattle.paper.specs.Calls.{reply_number}
 use Rattle.paper.specs.Replay.{fields_of}
 use Rattle.reply.specs.Read.{reply_read}

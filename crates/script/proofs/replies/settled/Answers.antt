@@ -1,6 +1,5 @@
 -- By the cases of the reply.
 use mathlib.Core.List.{[]}
-use borrow.Author.Rules.{rules}
 use Rattle.paper.specs.Calls.{reply_number}
 use Rattle.paper.specs.Replay.{fields_of}
 use Rattle.reply.specs.Read.{reply_read}

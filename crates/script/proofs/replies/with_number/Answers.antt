@@ -1,5 +1,4 @@
 -- Three texts, one behind the other.
-use borrow.Author.Rules.{rules}
 use Rattle.paper.specs.Replay.{decimal_of}
 use Rattle.script.proofs.Showing.{two_fields}
 use Rattle.script.proofs.replies.with_number.Goals as goal

@@ -1,5 +1,4 @@
 -- Four texts, one behind the other.
-use borrow.Author.Rules.{rules}
 use Rattle.paper.specs.Replay.{decimal_of}
 use Rattle.script.proofs.Showing.{three-fields}
 use Rattle.script.proofs.replies.with_numbers.Goals as goal

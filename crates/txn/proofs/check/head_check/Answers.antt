@@ -3,7 +3,6 @@ use Prim.Native.Nat.{ℕ}
 use lib.Dec.{leb}
 use mathlib.Core.Path.{ap, ◌∙◌}
 use Rattle.txn.proofs.Judging.{head-bad, head-low, head-high, head-last}
-use borrow.Author.Rules.{rules}
 use Rattle.txn.proofs.check.head_check.Goals as goal
 
 pub returns-then-be64-gt1 : goal.returns-then-be64-gt1

@@ -5,7 +5,6 @@ use Rattle.txn.specs.Place.{own_start}
 use Rattle.raw.proofs.Octets.{octets-of}
 use Rattle.overlay.specs.Overlay.{overlay_in}
 use Rattle.txn.proofs.Judging.{own-big, own-small}
-use borrow.Author.Rules.{rules}
 use Rattle.txn.proofs.check.own_check.Goals as goal
 
 pub returns-then-rooms-used : goal.returns-then-rooms-used

@@ -5,7 +5,6 @@ use Rattle.txn.specs.Checks.{head_sound, own_sound, set_sound}
 use mathlib.Core.Bool.{true, false}
 use Rattle.txn.specs.Place.{settings_of}
 use Rattle.txn.proofs.Judging.{no-head, no_own, no_reads, last-writes}
-use borrow.Author.Rules.{rules}
 use Rattle.txn.proofs.check.parts_check.Goals as goal
 
 pub returns-then-not-head_check : goal.returns-then-not-head_check

@@ -12,7 +12,6 @@ use Rattle.paper.specs.Lists.{rises}
 use Rattle.sets.specs.Sets.{hashes_in}
 use Rattle.overlay.specs.Overlay.{own_in, overlay_in}
 use Rattle.txn.proofs.Judging.{free-sound, parts-fail, other-sound, closed-sound, to-match, open-sound}
-use borrow.Author.Rules.{rules}
 use Rattle.txn.proofs.check.place_check.Goals as goal
 
 pub returns-then-handle-eq0 : goal.returns-then-handle-eq0

@@ -7,7 +7,6 @@ use Rattle.sets.specs.Sets.{hashes_in}
 use Rattle.raw.proofs.Octets.{octets-of}
 use Rattle.paper.specs.Lists.{rises}
 use Rattle.txn.proofs.Judging.{set-big, set-uneven, set-serial, set_other}
-use borrow.Author.Rules.{rules}
 use Rattle.txn.proofs.check.set_check.Goals as goal
 
 pub returns-then-count-used : goal.returns-then-count-used
