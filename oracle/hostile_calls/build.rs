@@ -7,8 +7,8 @@ use std::process::exit;
 /// The environment variable that names the archive's folder.
 const FOLDER: &str = "NGALOVUKI_LIB";
 
-/// Where `rt staticlib host` writes the archive, seen from this program's place in the repository.
-const USUAL_FOLDER: &str = "../../target/staticlib";
+/// Where `rt lib`, run in `crates/host`, writes the archive, seen from this program's place in the repository.
+const USUAL_FOLDER: &str = "../../crates/host/out";
 
 /// The folder to look in.
 fn folder() -> PathBuf {
@@ -26,7 +26,7 @@ fn main() {
     if !archive.is_file() {
         eprintln!("The store's archive is not at {}.", archive.display());
         eprintln!(
-            "Run `rt staticlib host` at the root of the repository, or set {FOLDER} to the folder that has libhost.a."
+            "Run `rt lib` in crates/host, or set {FOLDER} to the folder that has libhost.a."
         );
         exit(1);
     }

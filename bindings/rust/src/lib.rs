@@ -36,7 +36,7 @@
 //!
 //! # Linking
 //!
-//! `rt staticlib host`, run at the root of the repository, writes the archive to `target/staticlib/libhost.a`. The
+//! `rt lib`, run in `crates/host`, writes the archive to `crates/host/out/libhost.a`. The
 //! build of this crate looks there, or in the folder that the environment variable `NGALOVUKI_LIB` names.
 #![warn(missing_docs)]
 #![deny(unsafe_code)]

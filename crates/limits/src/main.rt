@@ -149,8 +149,8 @@ fn open(state: &mut [u8], what: &[u8], images: &[u8], lengths: &[u64]) {
     line(what, number);
 }
 
-// The calls at the limits, over an out buffer and a lent state.
-fn run(out: &mut [u8], state: &mut [u8]) {
+// The calls at the limits, over a lent state and an out buffer.
+fn run(state: &mut [u8], out: &mut [u8]) {
     let letters = [107u8; 65536];
     let longest = [107u8; 65535];
     // 17 images without a record, one after the other.
@@ -169,7 +169,7 @@ fn run(out: &mut [u8], state: &mut [u8]) {
 }
 
 fn main() {
-    let mut out = [0u8; 65536];
     let mut state = [0u8; 600000];
-    run(&mut out, &mut state);
+    let mut out = [0u8; 65536];
+    run(&mut state, &mut out);
 }
