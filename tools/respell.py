@@ -17,7 +17,7 @@ import re
 import sys
 
 WORD = re.compile(r"[A-Za-z_ℕ\u0370-\u03ff\u2080-\u2089\u2070-\u207f0-9][A-Za-z0-9_'\u0370-\u03ff\u2080-\u2089\u2070-\u207fℕ-]*")
-# In source and pages a dash is not part of a word unless the whole is a name of the repository.
+# A part of a name, between dashes, is in camel case where a capital follows a small letter, a digit or a prime.
 CAMEL = re.compile(r"[a-z0-9'][A-Z]")
 # Lemmas that have the new name of the definition they speak of: they get '_lem', as the library's do. With each, the crates that cite it.
 LEMMAS = {

@@ -19,7 +19,7 @@ use Rattle.key.specs.Places.{version_in, Placed}
 use Rattle.merge.specs.Cursors.{nowhere}
 use Rattle.merge.specs.Unread.{unread, Sound, least}
 use Rattle.merge.specs.Steps.{Passed}
-use Rattle.lsm.specs.Shown.{shown, coming, to_do, gone_on, Walked, is_open, still, still_to_do}
+use Rattle.lsm.specs.Shown.{shown, coming, to_do, GoneOn, Walked, is_open, still, still_to_do}
 use Rattle.merge.specs.declared.heap.Heap.{Heap}
 use Rattle.key.specs.declared.Place.{Place}
 use Rattle.lsm.specs.declared.walk.Mark.{Mark}
@@ -147,7 +147,7 @@ module _ (s : Bytes) (r : ℕ) (hi : Bound) (h : Heap) (ok : Sound s h) where
       subst (λ (x : Walk). Walked s r hi ps start n x) (sym e)
       (record { sound = ok; inside = record { key = q.key; key_in = omega (arith, q.mid, q.value, q.inside); value = q.value; value_in = q.inside }; same = z; on = tt })
 
-gone-on : (m : Mark) (s : Bytes) (w : Walk) (n start n' start' : ℕ) → start' + 1 ≤ start → n ≤ n' + 1 → gone_on m s w n' start' → gone_on m s w n start
+gone-on : (m : Mark) (s : Bytes) (w : Walk) (n start n' start' : ℕ) → start' + 1 ≤ start → n ≤ n' + 1 → GoneOn m s w n' start' → GoneOn m s w n start
 gone-on Found s w n start n' start' a b g = tt
 gone-on Ended s w n start n' start' a b g = tt
 gone-on Looking s w n start n' start' a b g = omega arith
@@ -172,7 +172,7 @@ coming-still Ended s r hi w o = refl
 coming-still Looking s r hi w o = refl
 coming-still Leaving s r hi w o = refl
 
-fewer-turns : (m n : Mark) (s : Bytes) (v w : Walk) → is_open m ≡ true → gone_on n s w 64 (still_to_do m s v) → turns n s w < turns m s v
+fewer-turns : (m n : Mark) (s : Bytes) (v w : Walk) → is_open m ≡ true → GoneOn n s w 64 (still_to_do m s v) → turns n s w < turns m s v
 fewer-turns Found n s v w o g = absurd (true≢false (sym o))
 fewer-turns Ended n s v w o g = absurd (true≢false (sym o))
 fewer-turns Looking Found s v w o g = omega arith

@@ -52,11 +52,11 @@ to_do Looking s h = 2 * length (unread s h)
 to_do Leaving s h = 2 * length (unread s h) + 1
 
 -- a walk that stopped for want of depth has gone n steps on
-abbrev pub gone_on : Mark → Bytes → Walk → ℕ → ℕ → Type 0
-gone_on Found s w n start = Unit {0}
-gone_on Ended s w n start = Unit {0}
-gone_on Looking s w n start = to_do Looking s w.heap + n ≤ start
-gone_on Leaving s w n start = to_do Leaving s w.heap + n ≤ start
+abbrev pub GoneOn : Mark → Bytes → Walk → ℕ → ℕ → Type 0
+GoneOn Found s w n start = Unit {0}
+GoneOn Ended s w n start = Unit {0}
+GoneOn Looking s w n start = to_do Looking s w.heap + n ≤ start
+GoneOn Leaving s w n start = to_do Leaving s w.heap + n ≤ start
 
 -- the places that a walk gives lie in s
 pub record Inside (s : Bytes) (w : Walk) : Type 0 where
@@ -70,7 +70,7 @@ pub record Walked (s : Bytes) (r : ℕ) (hi : Bound) (ps : List Pair) (start n :
   pub sound : Sound s w.heap
   pub inside : Inside s w
   pub same : coming w.mark s r hi w ≡ ps
-  pub on : gone_on w.mark s w n start
+  pub on : GoneOn w.mark s w n start
 
 -- ---- going on
 abbrev pub is_open : Mark → Bool

@@ -1,6 +1,5 @@
 -- An empty active run, too little room, or the run frozen.
 use native.Mathlib.Omega.{arith}
-use borrow.Author.Tests.{not-true, not-false}
 use mathlib.Core.Path.{sym, ◌∙◌}
 use Rattle.raw.proofs.Octets.{octets-of}
 use Rattle.freezing.proofs.Freezing.{sited, area-room, empty-told, full-told, frozen-told}
@@ -34,14 +33,14 @@ freeze_fits-requires c =
 pub returns-then-not-freeze_fits : goal.returns-then-not-freeze_fits
 returns-then-not-freeze_fits c =
     let o = octets-of c.args.state.now (λ i. omega (arith, c.slice_known-1.given i)) in
-    full-told c.args.state.now o c.requires (sym c.is_empty.ensures ∙ c.if-is_empty.false) (sym c.freeze_fits.ensures ∙ not-true _ c.if-not-freeze_fits.true-raw)
+    full-told c.args.state.now o c.requires (sym c.is_empty.ensures ∙ c.if-is_empty.false) (sym c.freeze_fits.ensures ∙ c.if-not-freeze_fits.true)
 
 pub freeze-requires : goal.freeze-requires
 freeze-requires c =
     let o = octets-of c.args.state.now (λ i. omega (arith, c.slice_known-1.given i)) in
-    (sited c.args.state.now o c.requires c.shape_in-shape.result c.shape_in-shape.ensures, sym c.freeze_fits.ensures ∙ not-false _ c.if-not-freeze_fits.false-raw)
+    (sited c.args.state.now o c.requires c.shape_in-shape.result c.shape_in-shape.ensures, sym c.freeze_fits.ensures ∙ c.if-not-freeze_fits.false)
 
 pub returns : goal.returns
 returns c =
     let o = octets-of c.args.state.now (λ i. omega (arith, c.slice_known-1.given i)) in
-    frozen-told c.args.state.now o c.requires (sym c.is_empty.ensures ∙ c.if-is_empty.false) (sym c.freeze_fits.ensures ∙ not-false _ c.if-not-freeze_fits.false-raw) c.freeze.new.state c.freeze.ensures
+    frozen-told c.args.state.now o c.requires (sym c.is_empty.ensures ∙ c.if-is_empty.false) (sym c.freeze_fits.ensures ∙ c.if-not-freeze_fits.false) c.freeze.new.state c.freeze.ensures

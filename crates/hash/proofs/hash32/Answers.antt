@@ -1,4 +1,3 @@
--- `hash::hash32` meets its contract. The loop's invariant is `Hashing`: hashing the bytes that are left from `h` gives the key's hash. The measure is their number.
 use native.Mathlib.Omega.{arith}
 use Rattle.hash.proofs.Hashing.{hashing-start, hashing-step, hashing-end}
 use Rattle.hash.proofs.hash32.Goals as goal

@@ -1,4 +1,3 @@
--- The invariant: what is counted, and what the entries from this place on have, is what the history has.
 use Rattle.mvcc.proofs.Pruning.{count-start, count-end, count-on}
 use Rattle.mvcc.proofs.Entries.{whole, walk-there}
 use Rattle.raw.proofs.Octets.{octets-of}

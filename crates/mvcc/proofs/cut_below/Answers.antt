@@ -1,4 +1,3 @@
--- The invariant: what stays of the history is what stays of the entries from this place on.
 use Rattle.mvcc.proofs.Pruning.{cut-start, cut-end, cut-stop, cut_on}
 use Rattle.mvcc.proofs.Entries.{whole, walk-there}
 use Rattle.raw.proofs.Octets.{octets-of}

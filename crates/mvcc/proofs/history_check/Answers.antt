@@ -1,4 +1,3 @@
--- The invariant: the history keeps the rules where the entries from this place on keep what is left of them.
 use Rattle.mvcc.proofs.Checking.{check-start, check-wrong, check-room, check-on, check-end}
 use Rattle.mvcc.proofs.Entries.{whole}
 use native.Mathlib.Omega.{arith}

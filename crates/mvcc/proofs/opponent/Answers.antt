@@ -1,4 +1,3 @@
--- The invariant: the opponent in the history is the opponent in the entries from this place on.
 use Rattle.mvcc.proofs.Opposing.{look-start, look-end, look-rises, look_hit, look-on}
 use Rattle.mvcc.proofs.Entries.{whole, walk-there}
 use Rattle.sets.specs.Sets.{hashes_in, shared_hash}

@@ -1,4 +1,3 @@
--- The invariant: the places passed are free, the other bytes are as they were, and the next place begins where it should.
 use native.Mathlib.Omega.{arith}
 use Rattle.settings.specs.Opening.{settings_of}
 use Rattle.opening.proofs.Freeing.{Next, none-freed, place-next, all-freed}

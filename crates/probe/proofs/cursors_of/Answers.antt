@@ -1,4 +1,3 @@
--- `probe::cursors_of` meets its contract: the loop has placed the cursors of the first i runs.
 use Rattle.probe.proofs.Asking.{placed-none, placed-next, placed-all}
 use mathlib.Core.Path.{refl, ◌∙◌}
 use lib.ListN.{length-set}

@@ -1,4 +1,3 @@
--- The loop's invariant: what was shown, and the lines that are left, make up the whole output. The measure is what is left of the input.
 use native.Mathlib.Omega.{arith}
 use mathlib.Core.Path.{refl}
 use Prim.Native.Nat.{◌≤◌}

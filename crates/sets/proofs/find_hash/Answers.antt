@@ -1,4 +1,3 @@
--- The invariant: the hash stands from place low on and before place high, if it stands in the set.
 use Rattle.sets.proofs.Searching.{search-start, search-up, search-down, search-hit, search-miss}
 use Rattle.sets.proofs.Risings.{apart}
 use Rattle.sets.proofs.Hashes.{length-hashes, hash-in}

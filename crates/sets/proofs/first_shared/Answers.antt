@@ -1,4 +1,3 @@
--- The invariant: the smallest hash in both sets is the smallest in what is left of the first one.
 use Rattle.sets.proofs.Sharing.{shares-no-more, shares-here, shares-next}
 use Rattle.sets.specs.Sets.{hashes_in}
 use mathlib.Core.Path.{refl, sym, ◌∙◌}

@@ -1,4 +1,3 @@
--- The invariant: the hashes rise where those from place i on rise from the last one passed.
 use Rattle.sets.proofs.Risings.{pos, none-rise, pass-start, pass_on, pass-stop, pass-end}
 use native.Mathlib.Omega.{arith}
 use Rattle.sets.proofs.rising.Goals as goal

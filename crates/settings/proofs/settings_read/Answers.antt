@@ -1,7 +1,6 @@
 use Rattle.settings.proofs.Reading.{settings-short, settings-foreign, settings-standing, none-good, range-bad, length-bad, all-good}
 use Rattle.settings.specs.Opening.{settings_of}
 use Rattle.paper.specs.Lists.{is_some}
-use borrow.Author.Tests.{not-true, not-false}
 use mathlib.Core.Path.{sym, ap, ◌∙◌}
 use native.Mathlib.Omega.{arith}
 use Rattle.settings.proofs.settings_read.Goals as goal
@@ -17,15 +16,15 @@ settings_at-st-requires c = ap is_some (settings-standing c.args.state.now c.if-
 
 pub returns-then-not-in_ranges : goal.returns-then-not-in_ranges
 returns-then-not-in_ranges c =
-    range-bad _ (settings_of c.settings_at-st.result) c.settings_at-st.ensures (sym c.in_ranges.ensures ∙ not-true _ c.if-not-in_ranges.true-raw)
+    range-bad _ (settings_of c.settings_at-st.result) c.settings_at-st.ensures (sym c.in_ranges.ensures ∙ c.if-not-in_ranges.true)
 
 pub state_length-requires : goal.state_length-requires
-state_length-requires c = sym c.in_ranges.ensures ∙ not-false _ c.if-not-in_ranges.false-raw
+state_length-requires c = sym c.in_ranges.ensures ∙ c.if-not-in_ranges.false
 
 pub returns-then-state-state_length : goal.returns-then-state-state_length
 returns-then-state-state_length c =
-    length-bad _ (settings_of c.settings_at-st.result) c.settings_at-st.ensures (sym c.in_ranges.ensures ∙ not-false _ c.if-not-in_ranges.false-raw) (omega (arith, c.state_length.ensures.0))
+    length-bad _ (settings_of c.settings_at-st.result) c.settings_at-st.ensures (sym c.in_ranges.ensures ∙ c.if-not-in_ranges.false) (omega (arith, c.state_length.ensures.0))
 
 pub returns : goal.returns
 returns c =
-    all-good _ (settings_of c.settings_at-st.result) c.settings_at-st.ensures (sym c.in_ranges.ensures ∙ not-false _ c.if-not-in_ranges.false-raw) (omega (arith, c.state_length.ensures.0))
+    all-good _ (settings_of c.settings_at-st.result) c.settings_at-st.ensures (sym c.in_ranges.ensures ∙ c.if-not-in_ranges.false) (omega (arith, c.state_length.ensures.0))

@@ -1,9 +1,7 @@
--- The invariant: every place passed keeps its rules, and the next one begins where it should.
 use native.Mathlib.Omega.{arith}
 use Rattle.settings.specs.Opening.{settings_of}
 use Rattle.state.proofs.Lying.{Lies, ranges-good, lies, slice-long}
 use Rattle.state.proofs.Seats.{rooms-are, seat-told, none-seated, more-seated, seats-good, seats-bad}
-use borrow.Author.Tests.{not-true, not-false}
 use native.Mathlib.Nat.{suc-mul, zero-mul}
 use native.Mathlib.Numerals.{add-one}
 use mathlib.Core.Path.{◌≡◌, ◌∙◌}
@@ -42,7 +40,7 @@ returns-then-not-place_check c =
     let h = here in
     let r = rooms-are (settings_of c.args.st) c.shape_of-shape.result h.shape in
     seats-bad c.shape_of-shape.result _ c.args.counter c.args.clock c.args.state.now (settings_of c.args.st) h.shape r c.loop-i.i c.loop-i-test.true
-    (seat-told c.shape_of-shape.result _ c.args.counter c.args.clock c.args.state.now c.loop-i.i c.loop-i.at c.loop-i.invariant.1 c.place_check.result c.place_check.ensures ∙ not-true _ c.if-not-place_check.true-raw)
+    (seat-told c.shape_of-shape.result _ c.args.counter c.args.clock c.args.state.now c.loop-i.i c.loop-i.at c.loop-i.invariant.1 c.place_check.result c.place_check.ensures ∙ c.if-not-place_check.true)
 
 pub overflow_add-i : goal.overflow_add-i
 overflow_add-i c =
@@ -54,7 +52,7 @@ loop-i-preserved c = (
   omega (arith, c.loop-i-test.true),
   rw (add-one, suc-mul) (omega (arith, c.loop-i.invariant.1)),
   more-seated c.shape_of-shape.result _ c.args.counter c.args.clock c.args.state.now c.loop-i.i c.loop-i.invariant.2
-      (seat-told c.shape_of-shape.result _ c.args.counter c.args.clock c.args.state.now c.loop-i.i c.loop-i.at c.loop-i.invariant.1 c.place_check.result c.place_check.ensures ∙ not-false _ c.if-not-place_check.false-raw),
+      (seat-told c.shape_of-shape.result _ c.args.counter c.args.clock c.args.state.now c.loop-i.i c.loop-i.at c.loop-i.invariant.1 c.place_check.result c.place_check.ensures ∙ c.if-not-place_check.false),
 )
 
 pub returns : goal.returns

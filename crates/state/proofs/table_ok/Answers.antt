@@ -5,7 +5,6 @@ use Rattle.paper.specs.Keys.{octets}
 use Rattle.raw.proofs.Octets.{octets-of}
 use Rattle.state.proofs.Lying.{Lies, ranges-good, lies}
 use Rattle.state.proofs.Together.{handles-fail, rows-tied}
-use borrow.Author.Tests.{not-true, not-false}
 use mathlib.Core.Path.{◌≡◌, sym, ◌∙◌}
 use mathlib.Core.Bool.{true}
 use Prim.Native.Nat.{◌-◌}
@@ -24,7 +23,7 @@ returns-then-not-distinct_handles c =
     let here : Lies c.args.state.now (settings_of c.args.st) c.shape_of-shape.result = lies _ (settings_of c.args.st) c.shape_of-shape.result c.requires.0 c.shape_of-shape.ensures in
     let bytes-here : octets c.args.state.now ≡ true = octets-of _ (λ i. omega (arith, c.type_inv.state i)) in
     let h = here in
-    handles-fail (settings_of c.args.st) c.args.state.now bytes-here c.requires.0 c.requires.1 c.shape_of-shape.result h.shape (sym c.distinct_handles.ensures ∙ not-true _ c.if-not-distinct_handles.true-raw)
+    handles-fail (settings_of c.args.st) c.args.state.now bytes-here c.requires.0 c.requires.1 c.shape_of-shape.result h.shape (sym c.distinct_handles.ensures ∙ c.if-not-distinct_handles.true)
 
 pub slice_bounds-rows_match-count : goal.slice_bounds-rows_match-count
 slice_bounds-rows_match-count c =
@@ -52,4 +51,4 @@ returns c =
     let bytes-here : octets c.args.state.now ≡ true = octets-of _ (λ i. omega (arith, c.type_inv.state i)) in
     let h = here in
     c.rows_match.ensures
-    ∙ rows-tied (settings_of c.args.st) c.args.state.now bytes-here c.requires.0 c.requires.1 c.shape_of-shape.result h.shape (c.shape_of-shape.result.history - 88) (omega (arith, h.rows)) (sym c.distinct_handles.ensures ∙ not-false _ c.if-not-distinct_handles.false-raw)
+    ∙ rows-tied (settings_of c.args.st) c.args.state.now bytes-here c.requires.0 c.requires.1 c.shape_of-shape.result h.shape (c.shape_of-shape.result.history - 88) (omega (arith, h.rows)) (sym c.distinct_handles.ensures ∙ c.if-not-distinct_handles.false)

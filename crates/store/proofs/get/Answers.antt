@@ -1,5 +1,4 @@
 -- The check, and then the call on a sound state.
-use borrow.Author.Tests.{not-true, not-false}
 use mathlib.Core.Path.{refl, sym, ◌∙◌}
 use Rattle.layout.specs.Runs.{is_opening}
 use Rattle.store.specs.Asked.{get_of}
@@ -10,11 +9,11 @@ pub returns-then-not-sound_state : goal.returns-then-not-sound_state
 unfolding is_opening
 returns-then-not-sound_state c =
     let k = get_of c.args.handle c.args.key.now c.args.out.now in
-    let n = not-true _ c.if-not-sound_state.true-raw in
+    let n = c.if-not-sound_state.true in
     (refused k c.args.state.now refl c.sound_state.result c.sound_state.ensures n, refused-value k c.args.state.now refl c.sound_state.result c.sound_state.ensures n c.args.out.now)
 
 pub get-requires : goal.get-requires
-get-requires c = sym c.sound_state.ensures ∙ not-false _ c.if-not-sound_state.false-raw
+get-requires c = sym c.sound_state.ensures ∙ c.if-not-sound_state.false
 
 pub returns : goal.returns
 returns c = c.get.ensures

@@ -1,4 +1,3 @@
--- The invariant: no place passed has the tag.
 use Prim.Native.Nat.{◌+◌, ◌*◌}
 use native.Mathlib.Nat.{suc-mul, zero-mul}
 use native.Mathlib.Numerals.{add-one}

@@ -1,4 +1,3 @@
--- The invariant: the buffer has the rows of the places from i on, laid over what it had.
 use borrow.Author.Rules.{rules}
 use native.Mathlib.Omega.{arith}
 use Prim.Native.Nat.{ℕ, suc, ◌+◌, ◌*◌, ◌-◌, ◌^◌, ◌<◌, ◌≤◌}

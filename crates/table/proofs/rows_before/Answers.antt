@@ -1,4 +1,3 @@
--- The invariant: each of the k rows passed is before t.
 use borrow.Author.Count.{below_more, below_none}
 use native.Mathlib.Omega.{arith}
 use Rattle.raw.proofs.Octets.{octets-of}

@@ -1,4 +1,3 @@
--- `watermark::cut` meets its contract. The loop's state is `Moving`.
 use Rattle.watermark.proofs.Moves.{move_start, move_step, move-length, move-end}
 use native.Mathlib.Omega.{arith}
 use Rattle.watermark.proofs.cut.Goals as goal

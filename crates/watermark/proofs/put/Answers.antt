@@ -1,4 +1,3 @@
--- `watermark::put` meets its contract. The loop's state is `Putting`.
 use Rattle.watermark.proofs.Moves.{put-start, put_step, put-length, put-end}
 use native.Mathlib.Omega.{arith}
 use Rattle.watermark.proofs.put.Goals as goal

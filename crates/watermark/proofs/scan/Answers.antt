@@ -1,4 +1,3 @@
--- `watermark::scan` meets its contract. The loop's state is `Scanning`.
 use Rattle.watermark.specs.declared.pass.Scan.{Scan}
 use Rattle.watermark.specs.Table.{up_to}
 use Rattle.watermark.specs.Pass.{scanned}

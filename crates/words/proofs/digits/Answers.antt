@@ -1,4 +1,3 @@
--- The digits before i make n, which fits; what is left goes on from it.
 use Rattle.words.proofs.Handles.{digits_low, digits-high, digits-many, digits-on, digits-end}
 use mathlib.Core.Path.{refl, sym, ◌∙◌}
 use native.Mathlib.Omega.{arith}

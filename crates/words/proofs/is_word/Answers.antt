@@ -1,4 +1,3 @@
--- The length first; then the bytes before i are letters or digits.
 use Rattle.words.proofs.Letters.{letters-on, letters-stop, letters-end, word-empty, word-long, word-is}
 use mathlib.Core.Path.{sym, ◌∙◌}
 use Rattle.words.proofs.is_word.Goals as goal

@@ -1,4 +1,3 @@
--- No separator stands between `at` and i.
 use Rattle.words.proofs.Pieces.{end-hit, end_on, end-past}
 use Rattle.words.proofs.piece_end.Goals as goal
 

@@ -1,4 +1,3 @@
--- `answers::reading::scan` is safe and ends: each answer's place lies in the bytes.
 use Rattle.answers.proofs.reading.scan.Goals as goal
 
 pub scan-a-requires : goal.scan-a-requires

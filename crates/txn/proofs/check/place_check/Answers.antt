@@ -1,5 +1,4 @@
 use native.Mathlib.Omega.{arith}
-use borrow.Author.Tests.{not-true, not-false}
 use Prim.Native.Nat.{ℕ, ◌+◌, ◌/◌, compare}
 use mathlib.Core.Bool.{true}
 use mathlib.Core.Path.{◌≡◌, sym, ap, ap₂, ◌∙◌}
@@ -24,22 +23,22 @@ returns-then-not-parts_check c =
     let known : octets c.args.place.now ≡ true = octets-of c.args.place.now (λ i. omega (arith, c.type_inv.place i)) in
     let taken : used_at c.args.place.now 0 ≡ 0 → ⊥ = λ z. c.if-handle-eq0.false (c.be64-handle.ensures ∙ z) in
     parts-fail c.args.rooms c.args.serializable c.args.counter c.args.clock c.args.place.now known c.requires.0 taken
-    (ap (λ (n : ℕ). parts_sound (settings_of c.args.serializable c.args.rooms) n c.args.counter c.args.clock c.args.place.now) (sym c.be64-handle.ensures) ∙ sym c.parts_check.ensures ∙ not-true c.parts_check.result c.if-not-parts_check.true-raw)
+    (ap (λ (n : ℕ). parts_sound (settings_of c.args.serializable c.args.rooms) n c.args.counter c.args.clock c.args.place.now) (sym c.be64-handle.ensures) ∙ sym c.parts_check.ensures ∙ c.if-not-parts_check.true)
 
 pub returns-then-not-serializable : goal.returns-then-not-serializable
 returns-then-not-serializable c =
     let known : octets c.args.place.now ≡ true = octets-of c.args.place.now (λ i. omega (arith, c.type_inv.place i)) in
     let taken : used_at c.args.place.now 0 ≡ 0 → ⊥ = λ z. c.if-handle-eq0.false (c.be64-handle.ensures ∙ z) in
     let sound : parts_sound (settings_of c.args.serializable c.args.rooms) (used_at c.args.place.now 0) c.args.counter c.args.clock c.args.place.now ≡ true = ap (λ (n : ℕ). parts_sound (settings_of c.args.serializable c.args.rooms) n c.args.counter c.args.clock c.args.place.now) (sym c.be64-handle.ensures)
-    ∙ sym c.parts_check.ensures ∙ not-false c.parts_check.result c.if-not-parts_check.false-raw in
-    other-sound c.args.rooms c.args.serializable c.args.counter c.args.clock c.args.place.now known c.requires.0 taken sound (not-true c.args.serializable c.if-not-serializable.true-raw)
+    ∙ sym c.parts_check.ensures ∙ c.if-not-parts_check.false in
+    other-sound c.args.rooms c.args.serializable c.args.counter c.args.clock c.args.place.now known c.requires.0 taken sound c.if-not-serializable.true
 
 pub returns-then-be64-eq0 : goal.returns-then-be64-eq0
 returns-then-be64-eq0 c =
     let known : octets c.args.place.now ≡ true = octets-of c.args.place.now (λ i. omega (arith, c.type_inv.place i)) in
     let taken : used_at c.args.place.now 0 ≡ 0 → ⊥ = λ z. c.if-handle-eq0.false (c.be64-handle.ensures ∙ z) in
     let sound : parts_sound (settings_of c.args.serializable c.args.rooms) (used_at c.args.place.now 0) c.args.counter c.args.clock c.args.place.now ≡ true = ap (λ (n : ℕ). parts_sound (settings_of c.args.serializable c.args.rooms) n c.args.counter c.args.clock c.args.place.now) (sym c.be64-handle.ensures)
-    ∙ sym c.parts_check.ensures ∙ not-false c.parts_check.result c.if-not-parts_check.false-raw in
+    ∙ sym c.parts_check.ensures ∙ c.if-not-parts_check.false in
     closed-sound c.args.rooms c.args.serializable c.args.counter c.args.clock c.args.place.now known c.requires.0 taken sound (sym c.be64.ensures ∙ c.if-be64-eq0.true)
 
 pub overflow_add-end : goal.overflow_add-end
@@ -47,7 +46,7 @@ overflow_add-end c =
     let known : octets c.args.place.now ≡ true = octets-of c.args.place.now (λ i. omega (arith, c.type_inv.place i)) in
     let taken : used_at c.args.place.now 0 ≡ 0 → ⊥ = λ z. c.if-handle-eq0.false (c.be64-handle.ensures ∙ z) in
     let sound : parts_sound (settings_of c.args.serializable c.args.rooms) (used_at c.args.place.now 0) c.args.counter c.args.clock c.args.place.now ≡ true = ap (λ (n : ℕ). parts_sound (settings_of c.args.serializable c.args.rooms) n c.args.counter c.args.clock c.args.place.now) (sym c.be64-handle.ensures)
-    ∙ sym c.parts_check.ensures ∙ not-false c.parts_check.result c.if-not-parts_check.false-raw in
+    ∙ sym c.parts_check.ensures ∙ c.if-not-parts_check.false in
     let m = to-match c.args.rooms c.args.serializable c.args.counter c.args.clock c.args.place.now known c.requires.0 taken sound in
     omega (arith, m.0, c.used_at-end.ensures, c.requires.0)
 
@@ -56,7 +55,7 @@ writes_match-requires c =
     let known : octets c.args.place.now ≡ true = octets-of c.args.place.now (λ i. omega (arith, c.type_inv.place i)) in
     let taken : used_at c.args.place.now 0 ≡ 0 → ⊥ = λ z. c.if-handle-eq0.false (c.be64-handle.ensures ∙ z) in
     let sound : parts_sound (settings_of c.args.serializable c.args.rooms) (used_at c.args.place.now 0) c.args.counter c.args.clock c.args.place.now ≡ true = ap (λ (n : ℕ). parts_sound (settings_of c.args.serializable c.args.rooms) n c.args.counter c.args.clock c.args.place.now) (sym c.be64-handle.ensures)
-    ∙ sym c.parts_check.ensures ∙ not-false c.parts_check.result c.if-not-parts_check.false-raw in
+    ∙ sym c.parts_check.ensures ∙ c.if-not-parts_check.false in
     let m = to-match c.args.rooms c.args.serializable c.args.counter c.args.clock c.args.place.now known c.requires.0 taken sound in
     let u : c.used_at-n.result ≡ used_at c.args.place.now (writes_at c.args.rooms) = c.used_at-n.ensures ∙ ap (used_at c.args.place.now) c.writes_at-writes.ensures in (
       omega arith,
@@ -72,9 +71,9 @@ returns c =
     let known : octets c.args.place.now ≡ true = octets-of c.args.place.now (λ i. omega (arith, c.type_inv.place i)) in
     let taken : used_at c.args.place.now 0 ≡ 0 → ⊥ = λ z. c.if-handle-eq0.false (c.be64-handle.ensures ∙ z) in
     let sound : parts_sound (settings_of c.args.serializable c.args.rooms) (used_at c.args.place.now 0) c.args.counter c.args.clock c.args.place.now ≡ true = ap (λ (n : ℕ). parts_sound (settings_of c.args.serializable c.args.rooms) n c.args.counter c.args.clock c.args.place.now) (sym c.be64-handle.ensures)
-    ∙ sym c.parts_check.ensures ∙ not-false c.parts_check.result c.if-not-parts_check.false-raw in
+    ∙ sym c.parts_check.ensures ∙ c.if-not-parts_check.false in
     let u : c.used_at-n.result ≡ used_at c.args.place.now (writes_at c.args.rooms) = c.used_at-n.ensures ∙ ap (used_at c.args.place.now) c.writes_at-writes.ensures in
     c.writes_match.ensures
     ∙ ap₂ (λ (i n : ℕ). same_numbers (hashes_in c.args.place.now (i + 8) (n / 4)) (own_hashes (own_in c.args.place.now own_start (own_start + c.used_at-end.result)))) c.writes_at-writes.ensures u
     ∙ ap (λ (n : ℕ). same_numbers (set_of c.args.place.now (writes_at c.args.rooms)) (own_hashes (own_in c.args.place.now own_start (own_start + n)))) c.used_at-end.ensures
-    ∙ open-sound c.args.rooms c.args.serializable c.args.counter c.args.clock c.args.place.now known c.requires.0 taken sound (not-false c.args.serializable c.if-not-serializable.false-raw) (λ z. c.if-be64-eq0.false (c.be64.ensures ∙ z))
+    ∙ open-sound c.args.rooms c.args.serializable c.args.counter c.args.clock c.args.place.now known c.requires.0 taken sound c.if-not-serializable.false (λ z. c.if-be64-eq0.false (c.be64.ensures ∙ z))

@@ -1,5 +1,4 @@
 use native.Mathlib.Omega.{arith}
-use borrow.Author.Tests.{not-true, not-false}
 use lib.Dec.{eqb}
 use Prim.Native.Nat.{ℕ, ◌+◌, ◌/◌, ◌%◌, compare}
 use mathlib.Core.Path.{◌≡◌, sym, ap, ◌∙◌}
@@ -21,10 +20,10 @@ pub returns-then-not-serializable : goal.returns-then-not-serializable
 returns-then-not-serializable c =
     let even : c.used_at-used.result % 4 ≡ 0 = c.if-used-ne0.false in
     ap (λ (n : ℕ). eqb n 0) c.used_at-used.ensures
-    ∙ set_other c.args.place.now (octets-of c.args.place.now (λ i. omega (arith, c.type_inv.place i))) c.args.at c.args.count c.requires c.args.serializable (omega (arith, c.if-count-used.false, c.used_at-used.ensures)) (ap (λ (n : ℕ). n % 4) (sym c.used_at-used.ensures) ∙ even) (not-true c.args.serializable c.if-not-serializable.true-raw)
+    ∙ set_other c.args.place.now (octets-of c.args.place.now (λ i. omega (arith, c.type_inv.place i))) c.args.at c.args.count c.requires c.args.serializable (omega (arith, c.if-count-used.false, c.used_at-used.ensures)) (ap (λ (n : ℕ). n % 4) (sym c.used_at-used.ensures) ∙ even) c.if-not-serializable.true
 
 pub returns : goal.returns
 returns c =
     let even : c.used_at-used.result % 4 ≡ 0 = c.if-used-ne0.false in
     c.rising.ensures ∙ ap (λ (n : ℕ). rises compare (hashes_in c.args.place.now (c.args.at + 8) (n / 4))) c.used_at-used.ensures
-    ∙ set-serial c.args.place.now (octets-of c.args.place.now (λ i. omega (arith, c.type_inv.place i))) c.args.at c.args.count c.requires c.args.serializable (omega (arith, c.if-count-used.false, c.used_at-used.ensures)) (ap (λ (n : ℕ). n % 4) (sym c.used_at-used.ensures) ∙ even) (not-false c.args.serializable c.if-not-serializable.false-raw)
+    ∙ set-serial c.args.place.now (octets-of c.args.place.now (λ i. omega (arith, c.type_inv.place i))) c.args.at c.args.count c.requires c.args.serializable (omega (arith, c.if-count-used.false, c.used_at-used.ensures)) (ap (λ (n : ℕ). n % 4) (sym c.used_at-used.ensures) ∙ even) c.if-not-serializable.false

@@ -1,4 +1,3 @@
--- `watermark::rows::cut` meets its contract. The loop's state is `Moving`.
 use Rattle.watermark.specs.Table.{no_row}
 use Rattle.watermark.proofs.Moves.{move_step}
 use Rattle.watermark.proofs.rows.cut.Goals as goal

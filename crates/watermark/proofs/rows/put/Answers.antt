@@ -1,4 +1,3 @@
--- `watermark::rows::put` meets its contract. The loop's state is `Putting`.
 use Rattle.watermark.proofs.Moves.{put_step}
 use Rattle.watermark.proofs.rows.put.Goals as goal
 

@@ -1,4 +1,3 @@
--- `watermark::rows::scan` meets its contract. The loop's state is `Scanning`.
 use Rattle.std.proofs.Common.{refl, length, leb, subst, ℕ, get_or, arith}
 use Rattle.watermark.specs.Table.{as_row, no_row}
 use Rattle.watermark.proofs.OnePass.{Scanning, scanning-start, scanning-step, scanning-within, scanning-end, within-room}
