@@ -149,27 +149,27 @@ fn open(state: &mut [u8], what: &[u8], images: &[u8], lengths: &[u64]) {
     line(what, number);
 }
 
-// The calls at the limits, over a lent state and an out buffer.
-fn run(state: &mut [u8], out: &mut [u8]) {
+fn main() {
+    let mut state = [0u8; 600000];
+    let mut out = [0u8; 65536];
     let letters = [107u8; 65536];
     let longest = [107u8; 65535];
     // 17 images without a record, one after the other.
     let images =
         b"RUN\0\x01\0\0\0\0RUN\0\x01\0\0\0\0RUN\0\x01\0\0\0\0RUN\0\x01\0\0\0\0RUN\0\x01\0\0\0\0RUN\0\x01\0\0\0\0RUN\0\x01\0\0\0\0RUN\0\x01\0\0\0\0RUN\0\x01\0\0\0\0RUN\0\x01\0\0\0\0RUN\0\x01\0\0\0\0RUN\0\x01\0\0\0\0RUN\0\x01\0\0\0\0RUN\0\x01\0\0\0\0RUN\0\x01\0\0\0\0RUN\0\x01\0\0\0\0RUN\0\x01\0\0\0\0";
     let lengths = [9u64; 17];
-    open(state, b"open without runs", images, &lengths[0..0]);
-    let handle = begun(state);
-    writes(state, handle, &letters, &longest);
-    gets(state, handle, &letters, &longest, out);
-    stored(state, handle);
-    open(state, b"open anew without runs", images, &lengths[0..0]);
-    freezes(state);
-    open(state, b"open with 16 runs", images, &lengths[0..16]);
-    open(state, b"open with 17 runs", images, &lengths);
-}
-
-fn main() {
-    let mut state = [0u8; 600000];
-    let mut out = [0u8; 65536];
-    run(&mut state, &mut out);
+    open(&mut state, b"open without runs", images, &lengths[0..0]);
+    let handle = begun(&mut state);
+    writes(&mut state, handle, &letters, &longest);
+    gets(&mut state, handle, &letters, &longest, &mut out);
+    stored(&mut state, handle);
+    open(
+        &mut state,
+        b"open anew without runs",
+        images,
+        &lengths[0..0],
+    );
+    freezes(&mut state);
+    open(&mut state, b"open with 16 runs", images, &lengths[0..16]);
+    open(&mut state, b"open with 17 runs", images, &lengths);
 }
