@@ -1,7 +1,7 @@
 #!/usr/bin/env python3
 """Writes crate `answers`: a fixed list of reads, and the oracle's answers as the program's expected output.
 
-  ./fixed_list.py        writes ../crates/answers/{src/{main,views,cases}.rt, specs/Packed.antt, stdout}
+  ./fixed_list.py        writes ../crates/answers/{src/{main,views,cases}.rt, specs/Packed.antt, stdout}; then run `rt fmt` there
 
 The reads are over five runs and own writes, made from a fixed seed, in three views: the runs alone, the
 runs with the own writes on top, and the runs in the opposite order with the own writes. Each line of
@@ -82,30 +82,27 @@ oracle = subprocess.run([HERE / 'target/release/oracle_scan'], input=''.join(scr
                         capture_output=True, text=True, check=True).stdout.splitlines()
 (CRATE / 'stdout').write_text(''.join(told(case, line) + '\n' for case, line in zip(cases, oracle, strict=True)))
 
-EDGES = {'i': 'Edge::Included', 'x': 'Edge::Excluded', 'u': 'Edge::Unbounded'}
+BOUNDS = {'i': 'Bound::Included(b"{}")', 'x': 'Bound::Excluded(b"{}")', 'u': 'Bound::Unbounded'}
 
 
 def call(view, read, *what):
     if len(what) == 1:
         return f'    get(s, {view}(s, {read}), b"{what[0]}");'
-    low, high = (f'{EDGES[kind]}, b"{word}"' for kind, word in what)
+    low, high = (BOUNDS[kind].format(word) for kind, word in what)
     return f'    scan(s, {view}(s, {read}), {low}, {high});'
 
 
 text = '''// The fixed list of reads, four to a function. Written by oracle/fixed_list.py.
-use crate::reading::get;
-use crate::reading::plain;
-use crate::reading::scan;
-use crate::reading::topped;
-use crate::reading::turned;
-use lsm::bounds::Edge;
-ghost use mathlib.Core.Path.{_≡_};
-ghost use Rattle·answers·specs.specs.Packed.{listBytes};
+ghost use Rattle.std.specs.Prelude.{◌≡◌};
+ghost use Rattle.answers.specs.Packed.{list_bytes};
+
+use crate::reading::{get, plain, scan, topped, turned};
+use std::ops::Bound;
 '''
 for group, at in enumerate(range(0, CASES, 4)):
     text += f'''
 pub(crate) fn group{'abcdefghijkl'[group]}(s: &[u8])
-    requires {{ ⌜ now s ≡ listBytes ⌝ }}
+    requires {{ s.now ≡ list_bytes }}
 {{
 ''' + '\n'.join(call(*case) for case in cases[at:at + 4]) + '\n}\n'
 (CRATE / 'src').mkdir(parents=True, exist_ok=True)
@@ -116,38 +113,35 @@ quoted = ''.join(chr(b) if 97 <= b < 123 else f'\\x{b:02x}' for b in packed)
 cursor = 'Cursor {{ at: {}, end: {}, run: {} }}'
 views = {'plain': (places, begin), 'topped': (places, len(packed)), 'turned': (places[::-1], len(packed))}
 text = '''// The packed bytes and the views of them. Written by oracle/fixed_list.py.
+ghost use Rattle.std.specs.Prelude.{◌≡◌};
+ghost use Rattle.answers.specs.Packed.{view_of, plain_view, topped_view, turned_view};
+
 use lsm::view::View;
-use merge::heap::Cursor;
-ghost use mathlib.Core.Path.{_≡_};
-ghost use Rattle·answers·specs.specs.Packed.{viewOf, plainView, toppedView, turnedView};
+use merge::heap::{Cursor, MOST_RUNS};
 
 // Five runs, and own writes from `own` to `stop`.
 fn view(a: Cursor, b: Cursor, c: Cursor, d: Cursor, e: Cursor, own: usize, stop: usize, read: u64) -> View
-    ensures { λ r. ⌜ r ≡ viewOf a b c d e own stop read ⌝ }
+    ensures { result ≡ view_of a b c d e own stop read }
 {
-    let mut cursors = [Cursor {
-        at: 0,
-        end: 0,
-        run: 0,
-    }; 17];
+    let mut cursors = [Cursor::NOWHERE; MOST_RUNS];
     cursors[0] = a;
     cursors[1] = b;
     cursors[2] = c;
     cursors[3] = d;
     cursors[4] = e;
     View {
-        cursors: cursors,
+        cursors,
         runs: 5,
-        own: own,
-        stop: stop,
-        read: read,
+        own,
+        stop,
+        read,
     }
 }
 '''
 for name, (where, stop) in views.items():
     text += f'''
 pub(crate) fn {name}_view(read: u64) -> View
-    ensures {{ λ r. ⌜ r ≡ {name}View read ⌝ }}
+    ensures {{ result ≡ {name}_view read }}
 {{
     view(
 ''' + ''.join(f'        Cursor {{\n            at: {a},\n            end: {e},\n            run: {i},\n        }},\n'
@@ -156,20 +150,19 @@ pub(crate) fn {name}_view(read: u64) -> View
 
 text = f'''-- The packed bytes of five runs and own writes, and three views of them. Written by oracle/fixed_list.py.
 -- Assumes nothing.
-use Prim.Native.Nat.{{ℕ}}
-use mathlib.Core.List.{{[], _∷_}}
-use Rattle·paper.specs.Keys.{{Bytes}}
-use Rattle·merge.specs.Cursors.{{nowhere}}
-use Rattle·merge.specs.declared.heap.Cursor.{{Cursor}}
-use Rattle·lsm.specs.declared.view.View.{{View}}
+use Rattle.std.specs.Prelude.{{ℕ, [], ◌∷◌}}
+use Rattle.paper.specs.Keys.{{Bytes}}
+use Rattle.merge.specs.Cursors.{{nowhere}}
+use Rattle.merge.specs.declared.heap.Cursor.{{Cursor}}
+use Rattle.lsm.specs.declared.view.View.{{View}}
 
 -- the runs one after the other, then the own writes
-unfoldable pub listBytes : Bytes
-listBytes = {' ∷ '.join(map(str, packed))} ∷ []
+unfoldable pub list_bytes : Bytes
+list_bytes = {' ∷ '.join(map(str, packed))} ∷ []
 
 -- five runs, own writes, a read number
-abbrev pub viewOf : Cursor → Cursor → Cursor → Cursor → Cursor → ℕ → ℕ → ℕ → View
-viewOf a b c d e own stop read =
+abbrev pub view_of : Cursor → Cursor → Cursor → Cursor → Cursor → ℕ → ℕ → ℕ → View
+view_of a b c d e own stop read =
     record {{
       cursors = a ∷ b ∷ c ∷ d ∷ e ∷ {'nowhere ∷ ' * 12}[];
       runs = 5;
@@ -180,10 +173,12 @@ viewOf a b c d e own stop read =
 '''
 for name, (where, stop) in views.items():
     cursors = ' '.join(f'(record {{ at = {a}; end = {e}; run = {i} }})' for i, (a, e) in enumerate(where))
-    text += f'\nabbrev pub {name}View : ℕ → View\n{name}View read = viewOf {cursors} {begin} {stop} read\n'
+    text += f'\nabbrev pub {name}_view : ℕ → View\n{name}_view read = view_of {cursors} {begin} {stop} read\n'
 (CRATE / 'specs/Packed.antt').write_text(text)
 main = f'''// A fixed list of reads over packed runs, each answered on a line. The expected lines are the answers of the original Rust.
 // Written by oracle/fixed_list.py.
+#![tactic(auto)]
+
 mod reading; // reading.rt: a whole scan and a get, written as a line
 mod views; // views.rt: the views of the packed bytes
 mod cases; // cases.rt: the reads

@@ -1,11 +1,12 @@
 -- How the rest of a get and of a scan ends, one law for each return.
 -- Assumes nothing.
 use native.Mathlib.Omega.{arith}
-use mathlib.Core.Path.{◌≡◌, refl, sym, ap, ap₂, ◌∙◌, subst}
-use mathlib.Core.Bool.{Bool, true, false, not, ◌&&◌}
+use mathlib.Core.Path.{◌≡◌, refl, sym, ap, ◌∙◌, subst}
+use mathlib.Core.Bool.{Bool, true, false, ◌&&◌}
+use mathlib.Core.Logic.{◌⊎◌, inl, inr}
 use mathlib.Core.Option.{Option, none, some}
-use Prim.Native.Nat.{ℕ, ◌-◌, ◌≤◌, ◌<◌}
-use borrow.Author.Tests.{not-true, not-false, le-leb, lt-leb}
+use Prim.Native.Nat.{ℕ, ◌≤◌, ◌<◌}
+use borrow.Author.Tests.{le-leb, lt-leb}
 use lib.Dec.{leb}
 use lib.ListN.{length}
 use Rattle.paper.specs.Keys.{Bytes}
@@ -14,15 +15,13 @@ use Rattle.paper.specs.Refusals.{Refusal, no_room, read_set, out_buffer, Try, st
 use Rattle.paper.specs.Room.{answer_fits, pair_fits}
 use Rattle.paper.specs.Calls.{Reply, found, answered, overwritten, value_out, key_out}
 use Rattle.paper.proofs.Bools.{and_intro}
-use Rattle.raw.specs.Bytes.{part}
-use Rattle.raw.proofs.Parts.{length_part}
 use Rattle.settings.specs.declared.Shape.{Shape}
-use Rattle.settings.proofs.Ranges.{and-false}
+use Rattle.std.proofs.Math.Bool.{and-false}
 use Rattle.lsm.specs.Pairs.{pair_at, InBytes}
 use Rattle.lsm.specs.Answers.{value_in, InAnswer}
 use Rattle.lsm.specs.declared.answer.Span.{Span}
-use Rattle.lsm.specs.declared.answer.Answer.{Answer}
-use Rattle.lsm.specs.declared.answer.Answer.TheVariants.{At, End}
+use Rattle.std.specs.Prelude as std
+use Rattle.std.specs.Prelude.{Some, None}
 use Rattle.reply.specs.Told as reply
 use Rattle.answering.specs.Places.{read_fits, noted}
 use Rattle.answering.specs.Rests.{rest_of_get, rest_of_scan, GetEnded, ScanEnded}
@@ -40,10 +39,6 @@ module _ (f g : Bool) (r q : Refusal) (a : Reply) where
   both-pass : f ≡ true → g ≡ true → must f r >> (must g q >> go a) ≡ go a
   unfolding must ◌>>◌
   both-pass e h = rw (e, h)
-
--- the length of a part by its two ends
-part-long : (b : Bytes) (start end : ℕ) → start ≤ end → end ≤ length b → length (part b start (end - start)) ≡ end - start
-part-long b start end l k = length_part b start (end - start) (omega arith)
 
 -- ---- a get
 module _ (m : Try Reply) (b after out : Bytes) where
@@ -70,46 +65,43 @@ module _ (z : Shape) (b : Bytes) (at hash : ℕ) (out : Bytes) where
     goes : (o : Option Bytes) (t : reply.Told) (b' out' : Bytes) → answer_fits (length out) o ≡ true → t ≡ reply.told (found o) → b' ≡ noted z b at hash → out' ≡ value_out (found o) out → GetEnds o t b' out'
     goes o t b' out' e p q r = get-goes (rest_of_get z b at hash (length out) o) b (noted z b at hash) out (found o) (fits o e) t b' out' p q r
 
-    module _ (p : Span) (i : InBytes b p) where
-      long : length (part b p.vs (p.ve - p.vs)) ≡ p.ve - p.vs
-      long = part-long b p.vs p.ve i.value i.value_in
-
+    module _ (p : Span) where
       -- 5, 'out buffer shorter than the answer'
-      pub value-short : length out < p.ve - p.vs → GetEnds (some (pair_at b p).value) (reply.why (no_room out_buffer)) b out
+      pub value-short : length out < length (pair_at b p).value → GetEnds (some (pair_at b p).value) (reply.why (no_room out_buffer)) b out
       unfolding rest_of_get
       value-short l =
           let o : Option Bytes = some (pair_at b p).value in
-          stops o (no_room out_buffer) (second-stops (read_fits z b at hash) (answer_fits (length out) o) (no_room read_set) (no_room out_buffer) (found o) f (lt-leb (length (pair_at b p).value) (length out) (omega (arith, long))))
+          stops o (no_room out_buffer) (second-stops (read_fits z b at hash) (answer_fits (length out) o) (no_room read_set) (no_room out_buffer) (found o) f (lt-leb (length (pair_at b p).value) (length out) l))
 
       -- the value stands in front of the out buffer
-      pub value_out_lem : p.ve - p.vs ≤ length out → (b' out' : Bytes) → b' ≡ noted z b at hash → out' ≡ overwritten (part b p.vs (p.ve - p.vs)) out
-          → GetEnds (some (pair_at b p).value) (reply.value (some (p.ve - p.vs))) b' out'
+      pub value_out_lem : length (pair_at b p).value ≤ length out → (b' out' : Bytes) → b' ≡ noted z b at hash → out' ≡ overwritten (pair_at b p).value out
+          → GetEnds (some (pair_at b p).value) (reply.value (some (length (pair_at b p).value))) b' out'
       unfolding reply.told value_out
       value_out_lem l b' out' q r =
-          goes (some (pair_at b p).value) (reply.value (some (p.ve - p.vs))) b' out' (le-leb (length (pair_at b p).value) (length out) (omega (arith, long))) (ap (λ (n : ℕ). reply.value (some n)) (sym long)) q r
+          goes (some (pair_at b p).value) (reply.value (some (length (pair_at b p).value))) b' out' (le-leb (length (pair_at b p).value) (length out) l) refl q r
 
   -- whether it has
-  module _ (answer : Answer) (r : Bool) (e : r ≡ read_fits z b at hash) where
+  module _ (answer : std.Option Span) (r : Bool) (e : r ≡ read_fits z b at hash) where
     -- 5, 'hash new and set full'
-    pub get-full : not r ≡ true → GetEnds (value_in b answer) (reply.why (no_room read_set)) b out
+    pub get-full : r ≡ false → GetEnds (value_in b answer) (reply.why (no_room read_set)) b out
     unfolding rest_of_get
-    get-full n = stops (value_in b answer) (no_room read_set) (first_stops (read_fits z b at hash) (answer_fits (length out) (value_in b answer)) (no_room read_set) (no_room out_buffer) (found (value_in b answer)) (sym e ∙ not-true r n))
+    get-full n = stops (value_in b answer) (no_room read_set) (first_stops (read_fits z b at hash) (answer_fits (length out) (value_in b answer)) (no_room read_set) (no_room out_buffer) (found (value_in b answer)) (sym e ∙ n))
 
-    pub get-fits : not r ≡ false → read_fits z b at hash ≡ true
-    get-fits n = sym e ∙ not-false r n
+    pub get-fits : r ≡ true → read_fits z b at hash ≡ true
+    get-fits n = sym e ∙ n
 
     -- 'an absent answer .. write nothing'
-    pub get_absent : not r ≡ false → answer ≡ End → (b' : Bytes) → b' ≡ noted z b at hash → GetEnds (value_in b answer) (reply.value none) b' out
+    pub get_absent : r ≡ true → answer ≡ None → (b' : Bytes) → b' ≡ noted z b at hash → GetEnds (value_in b answer) (reply.value none) b' out
     unfolding reply.told value_out
-    get_absent n k b' q = subst (λ (x : Answer). GetEnds (value_in b x) (reply.value none) b' out) (sym k) (goes (get-fits n) none (reply.value none) b' out (le-leb 0 (length out) (omega arith)) refl q refl)
+    get_absent n k b' q = subst (λ (x : std.Option Span). GetEnds (value_in b x) (reply.value none) b' out) (sym k) (goes (get-fits n) none (reply.value none) b' out (le-leb 0 (length out) (omega arith)) refl q refl)
 
     -- a value
-    module _ (p : Span) (k : answer ≡ At p) where
+    module _ (p : Span) (k : answer ≡ Some p) where
       pub span-in : InAnswer b answer → InBytes b p
       span-in i = subst (InAnswer b) k i
 
       pub get_present : (t : reply.Told) (b' out' : Bytes) → GetEnds (some (pair_at b p).value) t b' out' → GetEnds (value_in b answer) t b' out'
-      get_present t b' out' h = subst (λ (x : Answer). GetEnds (value_in b x) t b' out') (sym k) h
+      get_present t b' out' h = subst (λ (x : std.Option Span). GetEnds (value_in b x) t b' out') (sym k) h
 
 -- ---- a scan
 module _ (m : Try Reply) (b after keys values : Bytes) where
@@ -120,7 +112,7 @@ module _ (m : Try Reply) (b after keys values : Bytes) where
       → ScanEnded m b after keys values t b' keys' values'
   scan-goes a e t b' keys' values' f g h i = subst (λ (n : Try Reply). ScanEnded n b after keys values t b' keys' values') (sym e) (record { tells = f; state = g; key = h; value = i })
 
-module _ (z : Shape) (b : Bytes) (at : ℕ) (keys values : Bytes) (p : Span) (i : InBytes b p) (hash : ℕ) (h : hash ≡ hash_of (part b p.ks (p.ke - p.ks))) (f : Bool) (e : f ≡ read_fits z b at hash) where
+module _ (z : Shape) (b : Bytes) (at : ℕ) (keys values : Bytes) (p : Span) (hash : ℕ) (h : hash ≡ hash_of (pair_at b p).key) (f : Bool) (e : f ≡ read_fits z b at hash) where
   abbrev rest : Try Reply
   rest = rest_of_scan z b at (length keys) (length values) (pair_at b p)
 
@@ -134,44 +126,36 @@ module _ (z : Shape) (b : Bytes) (at : ℕ) (keys values : Bytes) (p : Span) (i 
   asked : f ≡ read_fits z b at (hash_of (pair_at b p).key)
   asked = e ∙ ap (λ (n : ℕ). read_fits z b at n) h
 
-  key-long : length (part b p.ks (p.ke - p.ks)) ≡ p.ke - p.ks
-  key-long = part-long b p.ks p.ke i.key i.key_in
-
-  value-long : length (part b p.vs (p.ve - p.vs)) ≡ p.ve - p.vs
-  value-long = part-long b p.vs p.ve i.value i.value_in
-
   -- 5, 'hash new and set full'
-  pub scan-full : not f ≡ true → ScanEnds (reply.why (no_room read_set)) b keys values
+  pub scan-full : f ≡ false → ScanEnds (reply.why (no_room read_set)) b keys values
   unfolding rest_of_scan
-  scan-full n = scan-stops rest b after keys values (no_room read_set) (first_stops (read_fits z b at (hash_of (pair_at b p).key)) (pair_fits (length keys) (length values) (pair_at b p)) (no_room read_set) (no_room out_buffer) (answered (some (pair_at b p))) (sym asked ∙ not-true f n))
+  scan-full n = scan-stops rest b after keys values (no_room read_set) (first_stops (read_fits z b at (hash_of (pair_at b p).key)) (pair_fits (length keys) (length values) (pair_at b p)) (no_room read_set) (no_room out_buffer) (answered (some (pair_at b p))) (sym asked ∙ n))
 
-  module _ (n : not f ≡ false) where
+  module _ (n : f ≡ true) where
     pub scan-fits : read_fits z b at hash ≡ true
-    scan-fits = sym e ∙ not-false f n
+    scan-fits = sym e ∙ n
 
     fitting : read_fits z b at (hash_of (pair_at b p).key) ≡ true
-    fitting = sym asked ∙ not-false f n
+    fitting = sym asked ∙ n
 
     short : pair_fits (length keys) (length values) (pair_at b p) ≡ false → ScanEnds (reply.why (no_room out_buffer)) b keys values
     unfolding rest_of_scan
     short g = scan-stops rest b after keys values (no_room out_buffer) (second-stops (read_fits z b at (hash_of (pair_at b p).key)) (pair_fits (length keys) (length values) (pair_at b p)) (no_room read_set) (no_room out_buffer) (answered (some (pair_at b p))) fitting g)
 
-    -- 5, 'out buffer shorter than the answer': the key's, and the value's
-    pub short-key : length keys < p.ke - p.ks → ScanEnds (reply.why (no_room out_buffer)) b keys values
-    short-key l = short (ap (λ (x : Bool). x && leb (length (pair_at b p).value) (length values)) (lt-leb (length (pair_at b p).key) (length keys) (omega (arith, key-long))))
-
-    pub short-value : length values < p.ve - p.vs → ScanEnds (reply.why (no_room out_buffer)) b keys values
-    short-value l =
-        short (ap (λ (x : Bool). leb (length (pair_at b p).key) (length keys) && x) (lt-leb (length (pair_at b p).value) (length values) (omega (arith, value-long))) ∙ and-false (leb (length (pair_at b p).key) (length keys)))
+    -- 5, 'out buffer shorter than the answer': the key's, or the value's
+    pub short-out : (length keys < length (pair_at b p).key) ⊎ ((length (pair_at b p).key ≤ length keys) × (length values < length (pair_at b p).value)) → ScanEnds (reply.why (no_room out_buffer)) b keys values
+    short-out (inl l) = short (ap (λ (x : Bool). x && leb (length (pair_at b p).value) (length values)) (lt-leb (length (pair_at b p).key) (length keys) l))
+    short-out (inr (k, l)) =
+        short (ap (λ (x : Bool). leb (length (pair_at b p).key) (length keys) && x) (lt-leb (length (pair_at b p).value) (length values) l) ∙ and-false (leb (length (pair_at b p).key) (length keys)))
 
     -- the key stands in front of its out buffer, and the value of its own
-    pub pair-out : p.ke - p.ks ≤ length keys → p.ve - p.vs ≤ length values → (b' keys' values' : Bytes) → b' ≡ noted z b at hash
-        → keys' ≡ overwritten (part b p.ks (p.ke - p.ks)) keys → values' ≡ overwritten (part b p.vs (p.ve - p.vs)) values
-        → ScanEnds (reply.pair (some (p.ke - p.ks, p.ve - p.vs))) b' keys' values'
+    pub pair-out : length (pair_at b p).key ≤ length keys → length (pair_at b p).value ≤ length values → (b' keys' values' : Bytes) → b' ≡ noted z b at hash
+        → keys' ≡ overwritten (pair_at b p).key keys → values' ≡ overwritten (pair_at b p).value values
+        → ScanEnds (reply.pair (some (length (pair_at b p).key, length (pair_at b p).value))) b' keys' values'
     unfolding rest_of_scan reply.told value_out key_out
     pair-out l k b' keys' values' u v w =
-        let g : pair_fits (length keys) (length values) (pair_at b p) ≡ true = and_intro (le-leb (length (pair_at b p).key) (length keys) (omega (arith, key-long))) (le-leb (length (pair_at b p).value) (length values) (omega (arith, value-long))) in
+        let g : pair_fits (length keys) (length values) (pair_at b p) ≡ true = and_intro (le-leb (length (pair_at b p).key) (length keys) l) (le-leb (length (pair_at b p).value) (length values) k) in
         scan-goes rest b after keys values (answered (some (pair_at b p)))
         (both-pass (read_fits z b at (hash_of (pair_at b p).key)) (pair_fits (length keys) (length values) (pair_at b p)) (no_room read_set) (no_room out_buffer) (answered (some (pair_at b p))) fitting g)
-        (reply.pair (some (p.ke - p.ks, p.ve - p.vs))) b' keys' values'
-        (ap₂ (λ (x y : ℕ). reply.pair (some (x, y))) (sym key-long) (sym value-long)) (u ∙ ap (λ (x : ℕ). noted z b at x) h) v w
+        (reply.pair (some (length (pair_at b p).key, length (pair_at b p).value))) b' keys' values'
+        refl (u ∙ ap (λ (x : ℕ). noted z b at x) h) v w

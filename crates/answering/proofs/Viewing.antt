@@ -15,13 +15,13 @@ use Rattle.layout.specs.Layout.{store_in, sound_state}
 use Rattle.settings.specs.Shapes.{shape_of}
 use Rattle.settings.specs.declared.Shape.{Shape}
 use Rattle.overlay.specs.Overlay.{pairs_in}
-use Rattle.txn.specs.Place.{stride_of, used_at, own_start, own_end}
+use Rattle.txn.specs.Place.{rooms_in, stride_of, used_at, own_start, own_end}
 use Rattle.txn.specs.declared.Rooms.{Rooms}
 use Rattle.txn.proofs.Holding.{Held, held, own-used, own_is, own_held_lem, own-parts}
 use Rattle.area.specs.Spread.{Sited, Spread}
 use Rattle.area.specs.declared.cursors.Runs.{Runs}
 use Rattle.lsm.specs.Pairs.{own_in, OwnAt, pairs, packed_pairs}
-use Rattle.answering.specs.Places.{rooms_in, place_in, TakenAt, txn_at}
+use Rattle.answering.specs.Places.{place_in, TakenAt, txn_at}
 use Rattle.answering.specs.Views.{Shows}
 use Rattle.answering.proofs.OwnPairs.{own-packed}
 

@@ -7,12 +7,7 @@ use Rattle.paper.specs.Store.{Txn, set_add, with_reads}
 use Rattle.paper.specs.Room.{set_fits}
 use Rattle.raw.specs.Bytes.{part, over}
 use Rattle.settings.specs.declared.Shape.{Shape}
-use Rattle.txn.specs.declared.Rooms.{Rooms}
-use Rattle.txn.specs.Place.{place_of, stride_of, txn_in, orderly}
-
--- the rooms of each place
-abbrev pub rooms_in : Shape → Rooms
-rooms_in z = record { own = z.own; reads = z.reads; writes = z.writes }
+use Rattle.txn.specs.Place.{rooms_in, place_of, stride_of, txn_in, orderly}
 
 -- the bytes of the place that begins at an offset
 abbrev pub place_in : Shape → Bytes → ℕ → Bytes

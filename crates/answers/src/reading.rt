@@ -5,9 +5,9 @@ ghost use Rattle.lsm.specs.Answers.{InAnswer};
 ghost use Rattle.lsm.specs.Views.{Readable};
 ghost use Rattle.answers.specs.Packed.{list_bytes};
 
-use lsm::answer::{Answer, Span};
-use lsm::bounds::Edge;
+use lsm::answer::Span;
 use lsm::view::View;
+use std::ops::Bound;
 
 fn write(bytes: &[u8]) {
     io::write_all(1, bytes);
@@ -16,48 +16,36 @@ fn write(bytes: &[u8]) {
 fn write_value(s: &[u8], p: Span)
     requires { InBytes s.now p }
 {
-    let vs = p.vs;
-    let ve = p.ve;
     write(b" ");
-    write(&s[vs..ve]);
+    write(p.value(s));
 }
 
 fn write_pair(s: &[u8], p: Span)
     requires { InBytes s.now p }
 {
-    let ks = p.ks;
-    let ke = p.ke;
     write(b" ");
-    write(&s[ks..ke]);
+    write(p.key(s));
     write_value(s, p);
 }
 
 // Writes an answer and gives the next: 'from the same upper bound and the last key as an excluded lower bound'.
-fn follow(s: &[u8], v: View, a: Answer, high: Edge, hi: &[u8]) -> Answer
-    requires { Readable s.now v × InAnswer s.now a }
+fn follow(s: &[u8], v: &View, answer: Option<Span>, high: Bound<&[u8]>) -> Option<Span>
+    requires { Readable s.now v.now × InAnswer s.now answer }
     ensures { InAnswer s.now result }
 {
-    match a {
-        Answer::At(p) => {
-            write_pair(s, p);
-            let ks = p.ks;
-            let ke = p.ke;
-            lsm::scan::scan(s, v, Edge::Excluded, &s[ks..ke], high, hi)
-        }
-        Answer::End => Answer::End,
-    }
+    let p = answer?;
+    write_pair(s, p);
+    v.scan(s, Bound::Excluded(p.key(s)), high)
 }
 
 // The answers of a scan, seven at most: the list has six keys.
-pub(crate) fn scan(s: &[u8], v: View, low: Edge, lo: &[u8], high: Edge, hi: &[u8])
+pub(crate) fn scan(s: &[u8], v: View, low: Bound<&[u8]>, high: Bound<&[u8]>)
     requires { Readable s.now v }
 {
     write(b"scan");
-    let mut a = lsm::scan::scan(s, v, low, lo, high, hi);
-    let mut i: u64 = 0;
-    while i < 7 {
-        a = follow(s, v, a, high, hi);
-        i += 1;
+    let mut answer = v.scan(s, low, high);
+    for _ in 0..7 {
+        answer = follow(s, &v, answer, high);
     }
     write(b"\n");
 }
@@ -66,9 +54,8 @@ pub(crate) fn get(s: &[u8], v: View, key: &[u8])
     requires { Readable s.now v }
 {
     write(b"get");
-    match lsm::get::get(s, v, key) {
-        Answer::At(p) => write_value(s, p),
-        Answer::End => {}
+    if let Some(p) = v.get(s, key) {
+        write_value(s, p);
     }
     write(b"\n");
 }

@@ -3,7 +3,7 @@ ghost use Rattle.std.specs.Prelude.{◌≡◌};
 ghost use Rattle.answers.specs.Packed.{view_of, plain_view, topped_view, turned_view};
 
 use lsm::view::View;
-use merge::heap::Cursor;
+use merge::heap::{Cursor, MOST_RUNS};
 
 // Five runs, and own writes from `own` to `stop`.
 fn view(
@@ -18,22 +18,18 @@ fn view(
 ) -> View
     ensures { result ≡ view_of a b c d e own stop read }
 {
-    let mut cursors = [Cursor {
-        at: 0,
-        end: 0,
-        run: 0,
-    }; 17];
+    let mut cursors = [Cursor::NOWHERE; MOST_RUNS];
     cursors[0] = a;
     cursors[1] = b;
     cursors[2] = c;
     cursors[3] = d;
     cursors[4] = e;
     View {
-        cursors: cursors,
+        cursors,
         runs: 5,
-        own: own,
-        stop: stop,
-        read: read,
+        own,
+        stop,
+        read,
     }
 }
 

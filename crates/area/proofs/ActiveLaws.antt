@@ -1,31 +1,30 @@
 -- The active run's part of a state: what its bytes are decides whether it keeps its rule.
 -- Assumes nothing.
 use native.Mathlib.Omega.{arith}
+use Rattle.std.specs.Prelude.{Some, None}
 use mathlib.Core.Path.{◌≡◌, refl, sym, ap, ap₂, ◌∙◌}
 use mathlib.Core.Bool.{Bool, true, false, cond, ◌&&◌, false≢true}
 use mathlib.Core.Option.{Option, none, some}
 use mathlib.Core.List.{[], ◌∷◌, ◌++◌}
-use Prim.Native.Nat.{ℕ, ◌+◌, ◌-◌, ◌≤◌, ◌<◌}
+use Prim.Native.Nat.{ℕ, ◌≤◌, ◌<◌}
 use lib.ListN.{length}
 use lib.Dec.{leb}
 use borrow.Author.Tests.{le-leb, lt-leb}
 use Rattle.paper.specs.Lists.{all}
 use Rattle.paper.specs.Keys.{Bytes, octets}
 use Rattle.paper.specs.Runs.{Run, run_size}
-use Rattle.paper.specs.Image.{record_bytes, records_bytes, number_from, storable}
+use Rattle.paper.specs.Image.{record_bytes, records_bytes, storable}
 use Rattle.paper.specs.Settings.{Settings}
 use Rattle.paper.specs.Store.{latest}
 use Rattle.paper.specs.Sound.{sound_run}
 use Rattle.paper.specs.Room.{active_fits}
 use Rattle.paper.proofs.Bools.{and_intro}
-use Rattle.raw.specs.Bytes.{part}
-use Rattle.raw.proofs.Parts.{length_part, take_part}
 use Rattle.raw.proofs.Octets.{octets-part}
 use Rattle.key.specs.Versions.{versions, packed}
 use Rattle.key.proofs.Packed.{packed-run}
-use Rattle.layout.specs.Codec.{put_all, many, first_of, room}
+use Rattle.layout.specs.Codec.{put_all, many, first_of, room, sized, plain}
 use Rattle.layout.specs.Offsets.{width_active}
-use Rattle.layout.specs.Layout.{version_stream, listed, active_slot}
+use Rattle.layout.specs.Layout.{version_stream, active_slot}
 use Rattle.layout.proofs.Streams.{All, Formed, many-laws}
 use Rattle.layout.proofs.Images.{OkVersion, version-laws}
 use Rattle.layout.proofs.Sizes.{run-form}
@@ -34,32 +33,12 @@ use Rattle.settings.specs.Parts.{holds_of, or_empty, active_ok}
 use Rattle.run.specs.Tallies.{tally_of}
 use Rattle.run.specs.Checks.{whole_run, checked}
 use Rattle.run.specs.declared.tally.Tally.{Tally}
-use Rattle.run.specs.declared.image.Checked.{Checked}
-use Rattle.run.specs.declared.image.Checked.TheVariants as answer
 use Rattle.run.proofs.Judging.{whole_is, is-whole}
-use Rattle.area.specs.Told.{used_in, active_told}
-use Rattle.area.specs.declared.check.Active.TheVariants as active
-use Rattle.area.proofs.Sizing.{first-lift, sized-cut, sized-here}
+use Rattle.run.proofs.Told.{says_of}
+use Rattle.area.specs.Told.{used_in, Split, active_told}
+use Rattle.area.specs.declared.check.Active.{Active}
+use Rattle.area.proofs.Sizing.{first-lift, sized-none, sized-some}
 use Rattle.area.proofs.RunsSound.{Sturdy, run-in-time, sound-whole}
-
--- what the check of packed records says of them
-abbrev pub Says : Bytes → Checked → Type 0
-Says b (answer.Run t) = (whole_run b ≡ true) × (t ≡ tally_of (versions b))
-Says b answer.Wrong = whole_run b ≡ false
-
-says : (b : Bytes) (r : Checked) → r ≡ checked b → Says b r
-unfolding checked
-says b r e = go (whole_run b) refl r e
-  where
-    go : (w : Bool) → whole_run b ≡ w → (r : Checked) → r ≡ cond w (answer.Run (tally_of (versions b))) answer.Wrong → Says b r
-    go true h (answer.Run t) e = (h, cc)
-    go true h answer.Wrong e = cc
-    go false h (answer.Run t) e = (cc, cc)
-    go false h answer.Wrong e = h
-
--- of those from an offset on
-pub says_at : (s : Bytes) (at n : ℕ) (r : Checked) → r ≡ checked (part s at (at + n - at)) → Says (part s at n) r
-says_at s at n r e = let z : at + n - at ≡ n = omega arith in says (part s at n) r (e ∙ ap (λ (m : ℕ). checked (part s at m)) z)
 
 -- ---- the records
 pub put-records : (r : Run) → (many version_stream).form r ≡ records_bytes r
@@ -117,66 +96,51 @@ module _ (x : Bytes) where
         go (some r) f = in-vain r f.0 f.1 (sound_run clock r) refl
 
 -- ---- the part
-module _ (s : Bytes) (at width clock : ℕ) (o : octets s ≡ true) (wide : 8 ≤ width) (fit : at + width ≤ length s) (n : ℕ) (e : n ≡ number_from 0 (part s at 8)) (st : Settings) (w : width_active st ≡ width) where
-  q : Bytes
-  q = part s at width
+abbrev active : ℕ → Tally → Active
+active n t = record { used = n; tally = t }
 
-  x : Bytes
-  x = part s (at + 8) n
-
-  same : part s at (at + width - at) ≡ part s at width
-  same = let z : at + width - at ≡ width = omega arith in ap (part s at) z
-
-  used-is : used_in q ≡ n
-  unfolding q
-  used-is = ap (number_from 0) (take_part s at width 8 wide) ∙ sym e
-
-  told-as : (t : Bool) → active_ok st clock q ≡ t → active_told st clock q ≡ cond t (active.Run (used_in q) (tally_of (or_empty ((active_slot st).read q)))) active.Wrong
+module _ (q : Bytes) (clock : ℕ) (o : octets q ≡ true) (wide : 8 ≤ length q) (st : Settings) (w : width_active st ≡ length q) where
+  told-as : (t : Bool) → active_ok st clock q ≡ t → active_told st clock q ≡ cond t (Some (record { used = used_in q; tally = tally_of (or_empty ((active_slot st).read q)) })) None
   unfolding active_told
-  told-as t h = ap (λ (b : Bool). cond b (active.Run (used_in q) (tally_of (or_empty ((active_slot st).read q)))) active.Wrong) h
+  told-as t h = ap (λ (b : Bool). cond b (Some (record { used = used_in q; tally = tally_of (or_empty ((active_slot st).read q)) })) None) h
 
   -- more bytes are in use than there are
-  pub active-cut : width - 8 < n → active.Wrong ≡ active_told st clock (part s at width)
-  unfolding q active_ok active_slot room
-  active-cut l =
-      sym (told-as false (ap (λ (u : Bytes). holds_of (first_of ((listed version_stream).get u)) (λ r. sound_run clock r && active_fits st r)) (sym same)
-      ∙ ap (λ p. holds_of (first_of p) (λ r. sound_run clock r && active_fits st r)) (sized-cut (many version_stream) s at (at + width) fit (omega arith) n e (omega arith))))
+  pub active-cut : (sized 8 plain).get q ≡ none → None ≡ active_told st clock q
+  unfolding active_ok active_slot room
+  active-cut e =
+      sym (told-as false (ap (λ p. holds_of (first_of p) (λ r. sound_run clock r && active_fits st r)) (sized-none (many version_stream) q e)))
 
-  module _ (l : n ≤ width - 8) where
+  module _ (x rest : Bytes) (s : Split q x rest) where
     read_is : (active_slot st).read q ≡ (many version_stream).parse x
-    unfolding q x active_slot room
-    read_is =
-        ap (λ (u : Bytes). first_of ((listed version_stream).get u)) (sym same)
-        ∙ ap first_of (sized-here (many version_stream) s at (at + width) fit (omega arith) n e (omega arith))
-        ∙ first-lift ((many version_stream).parse (part s (at + 8) n)) _
+    unfolding active_slot room
+    read_is = ap first_of (sized-some (many version_stream) q x rest s.read) ∙ first-lift ((many version_stream).parse x) rest
 
     bytes-there : octets x ≡ true
-    unfolding x
-    bytes-there = octets-part s (at + 8) n o
+    bytes-there = ap octets s.here ∙ octets-part q 8 (length x) o
 
     room-there : length x ≤ st.active_bytes
-    unfolding x
-    room-there = omega (arith, length_part s (at + 8) n (omega arith))
+    room-there = omega (arith, s.size)
 
     -- they are no run
-    pub active-broken : whole_run (part s (at + 8) n) ≡ false → active.Wrong ≡ active_told st clock (part s at width)
-    unfolding q x active_ok test
-    active-broken h = sym (told-as false (ap (λ (p : Option Run). holds_of p (test x bytes-there st clock)) read_is ∙ broken-test x bytes-there st clock h))
+    pub active-broken : None ≡ checked x → None ≡ active_told st clock q
+    unfolding active_ok test
+    active-broken h = sym (told-as false (ap (λ (p : Option Run). holds_of p (test x bytes-there st clock)) read_is ∙ broken-test x bytes-there st clock (says_of x None h)))
 
-    module _ (h : whole_run (part s (at + 8) n) ≡ true) (t : Tally) (k : t ≡ tally_of (versions (part s (at + 8) n))) where
+    module _ (t : Tally) (h : Some t ≡ checked x) where
+      says : (whole_run x ≡ true) × (t ≡ tally_of (versions x))
+      says = says_of x (Some t) h
+
       ok-is : active_ok st clock q ≡ leb t.latest clock
-      unfolding q x active_ok test tally_of
+      unfolding active_ok test tally_of
       ok-is =
-          ap (λ (p : Option Run). holds_of p (test x bytes-there st clock)) read_is ∙ whole-test x bytes-there st clock h room-there
-          ∙ sym (ap (λ (u : Tally). leb u.latest clock) k)
+          ap (λ (p : Option Run). holds_of p (test x bytes-there st clock)) read_is ∙ whole-test x bytes-there st clock says.0 room-there
+          ∙ sym (ap (λ (u : Tally). leb u.latest clock) says.1)
 
       -- a version is later than the clock
-      pub active-late : clock < t.latest → active.Wrong ≡ active_told st clock (part s at width)
-      unfolding q
+      pub active-late : clock < t.latest → None ≡ active_told st clock q
       active-late m = sym (told-as false (ok-is ∙ lt-leb t.latest clock m))
 
-      pub active-good : t.latest ≤ clock → active.Run n t ≡ active_told st clock (part s at width)
-      unfolding q x
+      pub active-good : t.latest ≤ clock → Some (record { used = length x; tally = t }) ≡ active_told st clock q
       active-good m =
-          let f : t ≡ tally_of (or_empty ((active_slot st).read q)) = k ∙ sym (ap (λ (p : Option Run). tally_of (or_empty p)) (read_is ∙ read_whole x (whole_is x h).0)) in
-          ap₂ (λ (i : ℕ) (u : Tally). active.Run i u) (sym used-is) f ∙ sym (told-as true (ok-is ∙ le-leb t.latest clock m))
+          let f : t ≡ tally_of (or_empty ((active_slot st).read q)) = says.1 ∙ sym (ap (λ (p : Option Run). tally_of (or_empty p)) (read_is ∙ read_whole x (whole_is x says.0).0)) in
+          ap₂ (λ (i : ℕ) (u : Tally). Some (active i u)) s.count f ∙ sym (told-as true (ok-is ∙ le-leb t.latest clock m))

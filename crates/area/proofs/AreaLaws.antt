@@ -1,29 +1,32 @@
 -- The run area's part of a state: its images one after the other, and what they and their number decide.
 -- Assumes nothing.
 use native.Mathlib.Omega.{arith}
-use mathlib.Core.Path.{◌≡◌, refl, sym, ap, ap₂, ◌∙◌, subst}
+use Rattle.std.specs.Prelude as std
+use Rattle.std.specs.Prelude.{Some, None}
+use Rattle.std.specs.Bool.{then_some}
+use Rattle.std.specs.Option.{option_partial_cmp}
+use Rattle.std.specs.Ordering.{nat_cmp, partial_lt, as_partial_cmp}
+use mathlib.Core.Path.{◌≡◌, refl, sym, ap, ◌∙◌, subst}
 use mathlib.Core.Bool.{Bool, true, false, not, cond, ◌&&◌}
 use mathlib.Core.Option.{Option, none, some}
 use mathlib.Core.List.{List, [], ◌∷◌, reverse, reverse_aux, reverse-reverse}
 use Prim.Native.Nat.{ℕ, ◌+◌, ◌*◌, ◌-◌, ◌≤◌, ◌<◌}
 use lib.ListN.{length}
-use lib.Dec.{leb, lit<}
-use borrow.Author.Tests.{le-leb, lt-leb}
-use Rattle.paper.specs.Lists.{all, is_empty}
+use lib.Dec.{leb, ltb, eqb, lit<}
+use borrow.Author.Tests.{le-leb, lt-leb, leb-true, leb-false, lt-ltb, le-ltb, eqb-true, eqb-false}
+use Rattle.paper.specs.Lists.{all, is_empty, join}
 use Rattle.paper.specs.Keys.{Bytes, octets}
 use Rattle.paper.specs.Runs.{Run}
-use Rattle.paper.specs.Image.{big_endian, records_bytes, image_of, number_from}
+use Rattle.paper.specs.Image.{big_endian, records_bytes, image_of}
 use Rattle.paper.specs.Settings.{Settings, most_runs}
-use Rattle.paper.specs.Store.{area_size, latest}
+use Rattle.paper.specs.Store.{area_size, latest, latest_of}
 use Rattle.paper.specs.Sound.{sound_run}
 use Rattle.paper.specs.Room.{runs_fit}
 use Rattle.paper.proofs.ImageBack.{verdict-read, octets-left, octets-right}
-use Rattle.raw.specs.Bytes.{part}
-use Rattle.raw.proofs.Parts.{length_part}
-use Rattle.raw.proofs.Octets.{octets-part}
-use Rattle.layout.specs.Codec.{put_all, many, sized, whole_via, map_option, cons_of, first_of, room}
+use Rattle.raw.proofs.Octets.{octets-part, octets-drop}
+use Rattle.layout.specs.Codec.{put_all, many, sized, plain, whole_via, map_option, cons_of, first_of, room}
 use Rattle.layout.specs.Offsets.{width_area}
-use Rattle.layout.specs.Layout.{image, images_whole, images_stream, frozen_slot}
+use Rattle.layout.specs.Layout.{image, images_whole, frozen_slot}
 use Rattle.layout.proofs.Streams.{StreamLaws, WholeLaws, Formed, All, sized-laws, many-laws, whole_via-laws}
 use Rattle.layout.proofs.Images.{OkImage, image-laws}
 use Rattle.layout.proofs.LayoutLaws.{OkSized}
@@ -31,14 +34,14 @@ use Rattle.layout.proofs.Sizes.{sized-put, images-form}
 use Rattle.settings.specs.Parts.{holds_of, or_empty, area_ok}
 use Rattle.run.specs.Writing.{head_bytes}
 use Rattle.run.proofs.Writing.{image-parts}
-use Rattle.area.specs.Told.{others_of, with_run, area_told, images_told, Imaged}
+use Rattle.area.specs.Told.{Split, latest_in, others_of, with_run, area_told, images_told}
 use Rattle.area.specs.declared.check.Others.{Others}
-use Rattle.area.specs.declared.check.Area.{Area}
-use Rattle.area.specs.declared.check.Area.TheVariants as area
 use Rattle.layout.proofs.Many.{many-end, many-step, many-cut}
-use Rattle.area.proofs.Sizing.{first-lift, sized-cut, sized-here}
+use Rattle.area.proofs.Sizing.{first-lift, sized-none, sized-some}
+use Rattle.area.proofs.Imaging.{Imaged}
+use Rattle.area.proofs.Newer.{less-is}
 use Rattle.area.proofs.RunsSound.{Sturdy, runs-in-time}
-use Rattle.area.proofs.Known.{beyond, beyond-none, beyond-on, all-beyond, others-reverse}
+use Rattle.area.proofs.Known.{run_latest, latest-join, beyond, beyond-none, beyond-on, all-beyond, others-reverse}
 
 -- ---- the images, as they lie and in run order
 pub sized-image : StreamLaws (sized 8 image) OkSized
@@ -53,9 +56,9 @@ abbrev pub lying : Bytes → Option (List Run)
 lying x = (many (sized 8 image)).parse x
 
 -- what is told of those that follow runs that are known
-abbrev pub beyond_told : Others → Option (List Run) → Area
-beyond_told o none = area.Wrong
-beyond_told o (some rs) = area.Runs (beyond o rs)
+abbrev pub beyond_told : Others → Option (List Run) → std.Option Others
+beyond_told o none = None
+beyond_told o (some rs) = Some (beyond o rs)
 
 told-lying : (x : Bytes) → images_told (images_whole.parse x) ≡ beyond_told (others_of []) (lying x)
 unfolding images_whole whole_via
@@ -63,62 +66,49 @@ told-lying x = go (lying x)
   where
     go : (o : Option (List Run)) → images_told (map_option reverse o) ≡ beyond_told (others_of []) o
     go none = refl
-    go (some rs) = ap area.Runs (others-reverse rs ∙ sym (all-beyond rs))
+    go (some rs) = ap Some (others-reverse rs ∙ sym (all-beyond rs))
 
-told-on : (o : Others) (r : Run) (q : Option (List Run)) → beyond_told o (cons_of (some r) q) ≡ beyond_told (with_run o (not (is_empty r)) (latest r)) q
+told-on : (o : Others) (r : Run) (q : Option (List Run)) → beyond_told o (cons_of (some r) q) ≡ beyond_told (with_run o (run_latest r)) q
 told-on o r none = refl
-told-on o r (some rs) = ap area.Runs (beyond-on o r rs)
+told-on o r (some rs) = ap Some (beyond-on o r rs)
 
--- ---- the loop: what is told of all images is what is told of those from i on, the ones before them being known
-pub record Passing (s : Bytes) (at end : ℕ) (known : Others) (i : ℕ) : Type 0 where
-  pub behind : at ≤ i
-  pub ahead : i ≤ end
-  pub few : known.count ≤ i - at
-  pub same : images_told (images_whole.parse (part s at (end - at))) ≡ beyond_told known (lying (part s i (end - i)))
+-- ---- the loop: what is told of all images is what is told of those that are left, the ones before them being known
+pub record Passing (images : Bytes) (known : Others) (rest : Bytes) : Type 0 where
+  pub bytes : octets rest ≡ true
+  pub few : known.count + length rest ≤ length images
+  pub same : images_told (images_whole.parse images) ≡ beyond_told known (lying rest)
 
-module _ (s : Bytes) (at end : ℕ) (o : octets s ≡ true) (order : at ≤ end) (fit : end ≤ length s) where
-  pub pass-start : (known : Others) → known ≡ others_of [] → Passing s at end known at
-  unfolding others_of
-  pass-start known e =
-      record {
-        behind = omega arith;
-        ahead = order;
-        few = omega (arith, ap (λ (k : Others). k.count) e);
-        same = told-lying (part s at (end - at)) ∙ ap (λ (k : Others). beyond_told k (lying (part s at (end - at)))) (sym e);
-      }
+pub pass-start : (images : Bytes) (known : Others) → octets images ≡ true → known ≡ others_of [] → Passing images known images
+unfolding others_of
+pass-start images known o e =
+    record {
+      bytes = o;
+      few = omega (arith, ap (λ (k : Others). k.count) e);
+      same = told-lying images ∙ ap (λ (k : Others). beyond_told k (lying images)) (sym e);
+    }
 
-  module _ (known : Others) (i : ℕ) (so : Passing s at end known i) where
-    bytes-there : octets (part s i (end - i)) ≡ true
-    bytes-there = octets-part s i (end - i) o
+module _ (images : Bytes) (known : Others) (rest : Bytes) (so : Passing images known rest) where
+  pub pass-done : eqb (length rest) 0 ≡ true → Some known ≡ images_told (images_whole.parse images)
+  pass-done h = sym (so.same ∙ ap (beyond_told known) (many-end sized-image rest (eqb-true (length rest) 0 h)) ∙ ap Some (beyond-none known))
 
-    long : length (part s i (end - i)) ≡ end - i
-    long = length_part s i (end - i) (omega (arith, so.ahead))
+  module _ (some-left : eqb (length rest) 0 ≡ false) where
+    l : 0 < length rest
+    l = let n = eqb-false (length rest) 0 some-left in omega arith
 
-    pub pass-done : end ≤ i → area.Runs known ≡ images_told (images_whole.parse (part s at (end - at)))
-    pass-done h =
-        sym (so.same ∙ ap (beyond_told known) (many-end sized-image (part s i (end - i)) (omega (arith, long))) ∙ ap area.Runs (beyond-none known))
+    pub pass-wrong : (sized 8 image).get rest ≡ none → None ≡ images_told (images_whole.parse images)
+    pass-wrong e = sym (so.same ∙ ap (beyond_told known) (many-cut sized-image rest l e))
 
-    module _ (l : i < end) where
-      pub pass-wrong : (sized 8 image).get (part s i (end - i)) ≡ none → area.Wrong ≡ images_told (images_whole.parse (part s at (end - at)))
-      pass-wrong e = sym (so.same ∙ ap (beyond_told known) (many-cut sized-image (part s i (end - i)) (omega (arith, long)) e))
-
-      module _ (next : ℕ) (any : Bool) (time : ℕ) (read : Imaged s i end next any time) where
-        pub pass_fits : known.count < length s
-        pass_fits = omega (arith, so.few, so.behind)
-
-        pub pass-next : (k : Others) → k ≡ with_run known any time → Passing s at end k next
-        pass-next k e =
-            record {
-              behind = omega (arith, so.behind, read.onward);
-              ahead = read.inside;
-              few = omega (arith, so.behind, so.few, read.onward, ap (λ (x : Others). x.count) e);
-              same =
-                  so.same
-                  ∙ ap (beyond_told known) (many-step sized-image (part s i (end - i)) read.run (part s next (end - next)) bytes-there (omega (arith, long)) read.read)
-                  ∙ told-on known read.run (lying (part s next (end - next)))
-                  ∙ ap₂ (λ (a : Bool) (t : ℕ). beyond_told (with_run known a t) (lying (part s next (end - next)))) (sym read.some-version) (sym read.last)
-                  ∙ ap (λ (x : Others). beyond_told x (lying (part s next (end - next)))) (sym e);
-            }
+    module _ (image behind : Bytes) (s : Split rest image behind) (time : std.Option ℕ) (read : Imaged rest behind time) where
+      pub pass-next : (k : Others) → k ≡ with_run known time → Passing images k behind
+      pass-next k e =
+          record {
+            bytes = ap octets s.behind ∙ octets-drop (8 + length image) rest so.bytes;
+            few = omega (arith, so.few, s.size, ap (λ (x : Others). x.count) e);
+            same =
+                so.same ∙ ap (beyond_told known) (many-step sized-image rest read.run behind so.bytes l read.read) ∙ told-on known read.run (lying behind)
+                ∙ ap (λ (t : std.Option ℕ). beyond_told (with_run known t) (lying behind)) (sym read.last)
+                ∙ ap (λ (x : Others). beyond_told x (lying behind)) (sym e);
+          }
 
 -- ---- runs that were read are as bytes hold them
 sturdy : (r : Run) → OkImage r → octets (image_of r) ≡ true → Sturdy r
@@ -151,7 +141,7 @@ module _ (x : Bytes) (o : octets x ≡ true) where
 
   formed : (q : Option (List Run)) → Formed images_whole.form (λ rs. All OkSized (reverse rs)) x q → (fs : List Run) → q ≡ some fs → Formed-of fs
   unfolding images_whole whole_via many
-  formed none f fs e = let z : ◌≡◌ {A = ℕ} 0 1 = cc in absurd (omega arith)
+  formed none f fs e = cc
   formed (some rs) f fs e =
       let g : rs ≡ fs = cc in
       subst Formed-of g
@@ -164,62 +154,80 @@ module _ (x : Bytes) (o : octets x ≡ true) where
   read-formed fs e = formed (images_whole.parse x) (whole-images.again x o) fs e
 
 -- what the check of the images says of them
-abbrev pub Says : Bytes → Area → Type 0
-Says x (area.Runs k) = (fs : List Run) × (images_whole.parse x ≡ some fs) × (k ≡ others_of fs)
-Says x area.Wrong = images_whole.parse x ≡ none
+abbrev pub Says : Bytes → std.Option Others → Type 0
+Says x (Some k) = (fs : List Run) × (images_whole.parse x ≡ some fs) × (k ≡ others_of fs)
+Says x None = images_whole.parse x ≡ none
 
-pub says_at : (s : Bytes) (at n : ℕ) (r : Area) → r ≡ images_told (images_whole.parse (part s at (at + n - at))) → Says (part s at n) r
-says_at s at n r e =
-    let z : at + n - at ≡ n = omega arith in
-    go (images_whole.parse (part s at n)) refl r (e ∙ ap (λ (m : ℕ). images_told (images_whole.parse (part s at m))) z)
+pub says : (x : Bytes) (r : std.Option Others) → r ≡ images_told (images_whole.parse x) → Says x r
+says x r e = go (images_whole.parse x) refl r e
   where
-    go : (q : Option (List Run)) → images_whole.parse (part s at n) ≡ q → (r : Area) → r ≡ images_told q → Says (part s at n) r
-    go none h (area.Runs k) e = let z : ◌≡◌ {A = ℕ} 0 1 = cc in absurd (omega arith)
-    go none h area.Wrong e = h
-    go (some fs) h (area.Runs k) e = (fs, h, cc)
-    go (some fs) h area.Wrong e = let z : ◌≡◌ {A = ℕ} 0 1 = cc in absurd (omega arith)
+    go : (q : Option (List Run)) → images_whole.parse x ≡ q → (r : std.Option Others) → r ≡ images_told q → Says x r
+    go none h (Some k) e = cc
+    go none h None e = h
+    go (some fs) h (Some k) e = (fs, h, cc)
+    go (some fs) h None e = cc
 
 -- ---- the part
-module _ (s : Bytes) (at width clock : ℕ) (o : octets s ≡ true) (wide : 136 ≤ width) (fit : at + width ≤ length s) (n : ℕ) (e : n ≡ number_from 0 (part s at 8)) (st : Settings) (w : width_area st ≡ width) where
-  q : Bytes
-  q = part s at width
+-- not after the clock, as nothing is
+abbrev pub in_time : std.Option ℕ → ℕ → Bool
+in_time None clock = true
+in_time (Some t) clock = leb t clock
 
-  x : Bytes
-  x = part s (at + 8) n
+-- the code's test that the clock is before the latest
+late-test : (clock : ℕ) (t : std.Option ℕ) → partial_lt (option_partial_cmp (as_partial_cmp nat_cmp)) (Some clock) t ≡ not (in_time t clock)
+late-test clock None = refl
+late-test clock (Some t) = less-is clock t ∙ go (leb t clock) refl
+  where
+    go : (b : Bool) → leb t clock ≡ b → ltb clock t ≡ not b
+    go true e = le-ltb clock t (leb-true t clock e)
+    go false e = lt-ltb clock t (leb-false t clock e)
 
+pub late-is : (clock : ℕ) (t : std.Option ℕ) (b : Bool) → b ≡ partial_lt (option_partial_cmp (as_partial_cmp nat_cmp)) (Some clock) t → in_time t clock ≡ not b
+late-is clock t b e = go (in_time t clock) b (e ∙ late-test clock t)
+  where
+    go : (p b : Bool) → b ≡ not p → p ≡ not b
+    go true true h = cc
+    go true false h = refl
+    go false true h = refl
+    go false false h = cc
+
+latest-in-time : (rs : List Run) (clock : ℕ) → leb (latest_of rs) clock ≡ in_time (latest_in rs) clock
+unfolding latest
+latest-in-time rs clock = go (join rs) (latest-join rs)
+  where
+    go : (ws : Run) → latest_of rs ≡ latest ws → leb (latest_of rs) clock ≡ in_time (then_some (not (is_empty ws)) (latest_of rs)) clock
+    go [] e = le-leb (latest_of rs) clock (omega (arith, e))
+    go (w ∷ ws) e = refl
+
+module _ (q : Bytes) (clock : ℕ) (o : octets q ≡ true) (wide : 136 ≤ length q) (st : Settings) (w : width_area st ≡ length q) where
   test : List Run → Bool
   test rs = all (sound_run clock) rs && runs_fit st rs
 
-  same : part s at (at + width - at) ≡ part s at width
-  same = let z : at + width - at ≡ width = omega arith in ap (part s at) z
-
-  told-as : (t : Bool) → area_ok st clock q ≡ t → area_told st clock q ≡ cond t (area.Runs (others_of (or_empty ((frozen_slot st).read q)))) area.Wrong
+  told-as : (t : Bool) → area_ok st clock q ≡ t → area_told st clock q ≡ cond t (Some (others_of (or_empty ((frozen_slot st).read q)))) None
   unfolding area_told
-  told-as t h = ap (λ (b : Bool). cond b (area.Runs (others_of (or_empty ((frozen_slot st).read q)))) area.Wrong) h
+  told-as t h = ap (λ (b : Bool). cond b (Some (others_of (or_empty ((frozen_slot st).read q)))) None) h
 
   ok-as : (p : Option (List Run)) → (frozen_slot st).read q ≡ p → area_ok st clock q ≡ holds_of p test
   unfolding area_ok test
   ok-as p f = ap (λ (r : Option (List Run)). holds_of r (λ rs. all (sound_run clock) rs && runs_fit st rs)) f
 
   -- more bytes are in use than there are
-  pub area-cut : width - 8 < n → area.Wrong ≡ area_told st clock (part s at width)
-  unfolding q frozen_slot room
-  area-cut l =
-      sym (told-as false (ok-as none (ap (λ (u : Bytes). first_of (images_stream.get u)) (sym same) ∙ ap first_of (sized-cut images_whole s at (at + width) fit (omega arith) n e (omega arith)))))
+  pub area-cut : (sized 8 plain).get q ≡ none → None ≡ area_told st clock q
+  unfolding frozen_slot room
+  area-cut e = sym (told-as false (ok-as none (ap first_of (sized-none images_whole q e))))
 
-  module _ (l : n ≤ width - 8) where
+  module _ (x r : Bytes) (s : Split q x r) where
     read_is : (frozen_slot st).read q ≡ images_whole.parse x
-    unfolding q x frozen_slot room
-    read_is =
-        ap (λ (u : Bytes). first_of (images_stream.get u)) (sym same)
-        ∙ ap first_of (sized-here images_whole s at (at + width) fit (omega arith) n e (omega arith))
-        ∙ first-lift (images_whole.parse (part s (at + 8) n)) _
+    unfolding frozen_slot room
+    read_is = ap first_of (sized-some images_whole q x r s.read) ∙ first-lift (images_whole.parse x) r
 
-    pub area-broken : images_whole.parse (part s (at + 8) n) ≡ none → area.Wrong ≡ area_told st clock (part s at width)
-    unfolding q x
+    bytes-there : octets x ≡ true
+    bytes-there = ap octets s.here ∙ octets-part q 8 (length x) o
+
+    pub area-broken : images_whole.parse x ≡ none → None ≡ area_told st clock q
     area-broken h = sym (told-as false (ok-as none (read_is ∙ h)))
 
-    module _ (k : Others) (read : Says (part s (at + 8) n) (area.Runs k)) where
+    module _ (k : Others) (read : Says x (Some k)) where
       fs : List Run
       fs = read.0
 
@@ -231,28 +239,26 @@ module _ (s : Bytes) (at width clock : ℕ) (o : octets s ≡ true) (wide : 136 
       unfolding others_of
       count = ap (λ (u : Others). u.count) known
 
-      size : 8 * length fs + area_size fs ≡ n
+      size : 8 * length fs + area_size fs ≡ length x
       unfolding fs
-      size = (read-formed (part s (at + 8) n) (octets-part s (at + 8) n o) read.0 read.1).size ∙ length_part s (at + 8) n (omega arith)
+      size = (read-formed x bytes-there read.0 read.1).size
 
-      ok-is : area_ok st clock q ≡ leb k.latest clock && (leb (length fs) most_runs && leb (area_size fs) st.area_bytes)
-      unfolding x test fs others_of
+      ok-is : area_ok st clock q ≡ in_time k.latest clock && (leb (length fs) most_runs && leb (area_size fs) st.area_bytes)
+      unfolding test fs others_of
       ok-is =
           ok-as (some fs) (read_is ∙ read.1)
-          ∙ ap (λ (b : Bool). b && runs_fit st fs) (runs-in-time clock fs (read-formed (part s (at + 8) n) (octets-part s (at + 8) n o) read.0 read.1).holds ∙ sym (ap (λ (u : Others). leb u.latest clock) known))
+          ∙ ap (λ (b : Bool). b && runs_fit st fs) (runs-in-time clock fs (read-formed x bytes-there read.0 read.1).holds ∙ latest-in-time fs clock ∙ sym (ap (λ (u : Others). in_time u.latest clock) known))
 
       -- a version is later than the clock
-      pub area-late : clock < k.latest → area.Wrong ≡ area_told st clock (part s at width)
-      unfolding q
-      area-late m = sym (told-as false (ok-is ∙ ap (λ (b : Bool). b && (leb (length fs) most_runs && leb (area_size fs) st.area_bytes)) (lt-leb k.latest clock m)))
+      pub area-late : in_time k.latest clock ≡ false → None ≡ area_told st clock q
+      area-late m = sym (told-as false (ok-is ∙ ap (λ (b : Bool). b && (leb (length fs) most_runs && leb (area_size fs) st.area_bytes)) m))
 
-      module _ (t : k.latest ≤ clock) where
+      module _ (t : in_time k.latest clock ≡ true) where
         ok-then : area_ok st clock q ≡ leb (length fs) most_runs && leb (area_size fs) st.area_bytes
-        ok-then = ok-is ∙ ap (λ (b : Bool). b && (leb (length fs) most_runs && leb (area_size fs) st.area_bytes)) (le-leb k.latest clock t)
+        ok-then = ok-is ∙ ap (λ (b : Bool). b && (leb (length fs) most_runs && leb (area_size fs) st.area_bytes)) t
 
         -- 'a 17th run'
-        pub area-many : 16 < k.count → area.Wrong ≡ area_told st clock (part s at width)
-        unfolding q
+        pub area-many : 16 < k.count → None ≡ area_told st clock q
         area-many m = sym (told-as false (ok-then ∙ ap (λ (b : Bool). b && leb (area_size fs) st.area_bytes) (lt-leb (length fs) most_runs (omega (arith, count)))))
 
         module _ (m : k.count ≤ 16) where
@@ -260,12 +266,11 @@ module _ (s : Bytes) (at width clock : ℕ) (o : octets s ≡ true) (wide : 136 
           ok-last = ok-then ∙ ap (λ (b : Bool). b && leb (area_size fs) st.area_bytes) (le-leb (length fs) most_runs (omega (arith, count)))
 
           -- 'run area (whole images) too small'
-          pub area-full : width - 136 + 8 * k.count < n → area.Wrong ≡ area_told st clock (part s at width)
-          unfolding q
+          pub area-full : length q - 136 + 8 * k.count < length x → None ≡ area_told st clock q
           area-full h = sym (told-as false (ok-last ∙ lt-leb (area_size fs) st.area_bytes (omega (arith, count, size))))
 
-          pub area-good : n ≤ width - 136 + 8 * k.count → area.Runs k ≡ area_told st clock (part s at width)
-          unfolding q x fs
+          pub area-good : length x ≤ length q - 136 + 8 * k.count → Some k ≡ area_told st clock q
+          unfolding fs
           area-good h =
               let f : k ≡ others_of (or_empty ((frozen_slot st).read q)) = known ∙ sym (ap (λ (p : Option (List Run)). others_of (or_empty p)) (read_is ∙ read.1)) in
-              ap area.Runs f ∙ sym (told-as true (ok-last ∙ le-leb (area_size fs) st.area_bytes (omega (arith, count, size))))
+              ap Some f ∙ sym (told-as true (ok-last ∙ le-leb (area_size fs) st.area_bytes (omega (arith, count, size))))

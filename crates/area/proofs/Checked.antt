@@ -1,7 +1,8 @@
 -- What the answers say to the check of the whole state, in the words of settings' rules.
 -- Assumes nothing.
-use native.Mathlib.Omega.{arith}
-use mathlib.Core.Path.{◌≡◌, refl, ap₂, ◌∙◌}
+use mathlib.Core.Path.{◌≡◌, refl, ap, ap₂, ◌∙◌}
+use Rattle.std.specs.Prelude as std
+use Rattle.std.specs.Prelude.{Some, None}
 use mathlib.Core.Bool.{Bool, true, false, cond, ◌&&◌}
 use mathlib.Core.Option.{Option, none, some}
 use Prim.Native.Nat.{ℕ, ◌≤◌}
@@ -12,47 +13,46 @@ use Rattle.paper.specs.Settings.{Settings, most_number}
 use Rattle.paper.specs.Sound.{sound_run, newer_than}
 use Rattle.paper.specs.Room.{active_fits}
 use Rattle.paper.proofs.Bools.{and_left}
-use Rattle.layout.specs.Offsets.{start_active, width_active, start_area, width_area, active_part, area_part}
+use Rattle.layout.specs.Offsets.{active_part, area_part}
 use Rattle.layout.specs.Layout.{active_slot, frozen_slot}
 use Rattle.settings.specs.Parts.{holds_of, or_empty, active_ok, area_ok, active_in, frozen_in}
 use Rattle.run.specs.Tallies.{tally_of}
 use Rattle.run.specs.declared.tally.Tally.{Tally}
-use Rattle.area.specs.Told.{used_in, active_told, ActiveTold, area_told, AreaTold, others_of, newer_by}
+use Rattle.area.specs.Told.{used_in, active_told, area_told, others_of, newer_by}
 use Rattle.area.specs.declared.check.Active.{Active}
-use Rattle.area.specs.declared.check.Active.TheVariants as active
 use Rattle.area.specs.declared.check.Others.{Others}
-use Rattle.area.specs.declared.check.Area.{Area}
-use Rattle.area.specs.declared.check.Area.TheVariants as area
 use Rattle.area.proofs.Newer.{newer-is}
 
 module _ (st : Settings) (b : Bytes) (clock : ℕ) where
-  abbrev pub ActiveSays : Active → Type 0
-  ActiveSays (active.Run used t) = (active_ok st clock (active_part st b) ≡ true) × (used ≡ used_in (active_part st b)) × (t ≡ tally_of (active_in st b))
-  ActiveSays active.Wrong = active_ok st clock (active_part st b) ≡ false
+  abbrev pub ActiveSays : std.Option Active → Type 0
+  ActiveSays (Some a) = (active_ok st clock (active_part st b) ≡ true) × (a.used ≡ used_in (active_part st b)) × (a.tally ≡ tally_of (active_in st b))
+  ActiveSays None = active_ok st clock (active_part st b) ≡ false
 
-  pub active-says : (r : Active) → ActiveTold b (start_active st) (width_active st) clock r → ActiveSays r
+  pub active-says : (r : std.Option Active) → r ≡ active_told st clock (active_part st b) → ActiveSays r
   unfolding active_told active_in
-  active-says r f = go (active_ok st clock (active_part st b)) refl r (f st refl)
+  active-says r f = go (active_ok st clock (active_part st b)) refl r f
     where
-      go : (t : Bool) → active_ok st clock (active_part st b) ≡ t → (r : Active) → r ≡ cond t (active.Run (used_in (active_part st b)) (tally_of (or_empty ((active_slot st).read (active_part st b))))) active.Wrong → ActiveSays r
-      go true h (active.Run used t) e = (h, cc, cc)
-      go true h active.Wrong e = let z : ◌≡◌ {A = ℕ} 0 1 = cc in absurd (omega arith)
-      go false h (active.Run used t) e = let z : ◌≡◌ {A = ℕ} 0 1 = cc in absurd (omega arith)
-      go false h active.Wrong e = h
+      go : (t : Bool) → active_ok st clock (active_part st b) ≡ t → (r : std.Option Active) → r ≡ cond t (Some (record { used = used_in (active_part st b); tally = tally_of (or_empty ((active_slot st).read (active_part st b))) })) None → ActiveSays r
+      go true h (Some a) e =
+          let z : a ≡ record { used = used_in (active_part st b); tally = tally_of (or_empty ((active_slot st).read (active_part st b))) } = cc in
+          (h, ap (λ (x : Active). x.used) z, ap (λ (x : Active). x.tally) z)
+      go true h None e = cc
+      go false h (Some a) e = cc
+      go false h None e = h
 
-  abbrev pub AreaSays : Area → Type 0
-  AreaSays (area.Runs k) = (area_ok st clock (area_part st b) ≡ true) × (k ≡ others_of (frozen_in st b))
-  AreaSays area.Wrong = area_ok st clock (area_part st b) ≡ false
+  abbrev pub AreaSays : std.Option Others → Type 0
+  AreaSays (Some k) = (area_ok st clock (area_part st b) ≡ true) × (k ≡ others_of (frozen_in st b))
+  AreaSays None = area_ok st clock (area_part st b) ≡ false
 
-  pub area-says : (r : Area) → AreaTold b (start_area st) (width_area st) clock r → AreaSays r
+  pub area-says : (r : std.Option Others) → r ≡ area_told st clock (area_part st b) → AreaSays r
   unfolding area_told frozen_in
-  area-says r f = go (area_ok st clock (area_part st b)) refl r (f st refl)
+  area-says r f = go (area_ok st clock (area_part st b)) refl r f
     where
-      go : (t : Bool) → area_ok st clock (area_part st b) ≡ t → (r : Area) → r ≡ cond t (area.Runs (others_of (or_empty ((frozen_slot st).read (area_part st b))))) area.Wrong → AreaSays r
-      go true h (area.Runs k) e = (h, cc)
-      go true h area.Wrong e = let z : ◌≡◌ {A = ℕ} 0 1 = cc in absurd (omega arith)
-      go false h (area.Runs k) e = let z : ◌≡◌ {A = ℕ} 0 1 = cc in absurd (omega arith)
-      go false h area.Wrong e = h
+      go : (t : Bool) → area_ok st clock (area_part st b) ≡ t → (r : std.Option Others) → r ≡ cond t (Some (others_of (or_empty ((frozen_slot st).read (area_part st b))))) None → AreaSays r
+      go true h (Some k) e = (h, cc)
+      go true h None e = cc
+      go false h (Some k) e = cc
+      go false h None e = h
 
   -- the active run that was read is sound
   active-sound : active_ok st clock (active_part st b) ≡ true → sound_run clock (active_in st b) ≡ true
@@ -60,7 +60,7 @@ module _ (st : Settings) (b : Bytes) (clock : ℕ) where
   active-sound = go ((active_slot st).read (active_part st b))
     where
       go : (o : Option Run) → holds_of o (λ r. sound_run clock r && active_fits st r) ≡ true → sound_run clock (or_empty o) ≡ true
-      go none h = let z : ◌≡◌ {A = ℕ} 0 1 = cc in absurd (omega arith)
+      go none h = cc
       go (some r) h = and_left (sound_run clock r) (active_fits st r) h
 
   -- 'active versions newer than all in other runs'

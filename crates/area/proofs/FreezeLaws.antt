@@ -2,13 +2,14 @@
 -- Assumes nothing.
 use native.Mathlib.Omega.{arith}
 use mathlib.Core.Path.{◌≡◌, refl, sym, ap, ap₂, ◌∙◌, subst}
-use mathlib.Core.Bool.{Bool, true, false, ◌&&◌}
+use mathlib.Core.Bool.{Bool, true, ◌&&◌}
 use mathlib.Core.List.{List, [], ◌∷◌, ◌++◌, reverse, reverse-reverse}
 use Prim.Native.Nat.{ℕ, suc, ◌+◌, ◌*◌, ◌-◌, ◌≤◌, ◌<◌}
 use lib.ListN.{length, length-append}
-use lib.Dec.{leb, eqb}
-use borrow.Author.Tests.{le-leb, lt-leb, leb-true, ne_eqb}
-use Rattle.paper.specs.Lists.{total, is_empty}
+use lib.Dec.{leb, ltb, eqb}
+use borrow.Author.Tests.{le-leb, lt-leb, le-ltb, leb-true, ne_eqb}
+use Rattle.paper.specs.Lists.{total, is_empty, is_some}
+use mathlib.Core.Option.{Option, some}
 use Rattle.paper.specs.Keys.{Bytes, octets}
 use Rattle.paper.specs.Runs.{Run, version_size, run_size}
 use Rattle.paper.specs.Image.{big_endian, image_of, number_from}
@@ -36,7 +37,8 @@ use Rattle.layout.proofs.SoundState.{sound-read, sound-in, sound-enough}
 use Rattle.area.specs.Spread.{Sited}
 use Rattle.area.proofs.ActiveLaws.{put-records}
 use Rattle.area.proofs.AreaLaws.{all-turned}
-use Rattle.area.proofs.Sites.{Sites, sites, area-used}
+use Rattle.area.proofs.Sites.{Sites, sites, area-used, area-read}
+use Rattle.settings.specs.Parts.{or_empty}
 use Rattle.area.proofs.Placing.{records-are, used-is}
 
 few-versions : (r : Run) → 12 * length r ≤ run_size r
@@ -93,6 +95,19 @@ module _ (b : Bytes) (o : octets b ≡ true) (active area : ℕ) (g : Sited b ac
       pub area-inside : area + 8 + m ≤ length b
       area-inside = omega (arith, area-used b active area (store_in b).active (frozen_of (store_in b)) there m f, there.ends)
 
+      -- the images of the used bytes
+      pub area-reads : images_whole.parse (part b (area + 8) (area + 8 + m - (area + 8))) ≡ some (frozen_of (store_in b))
+      area-reads = area-read b active area (store_in b).active (frozen_of (store_in b)) there m f
+
+      pub area-counts : is_some (images_whole.parse (part b (area + 8) (area + 8 + m - (area + 8)))) ≡ true
+      area-counts = ap is_some area-reads
+
+      pub counted-all : (c : ℕ) → c ≡ length (or_empty (images_whole.parse (part b (area + 8) (area + 8 + m - (area + 8))))) → c ≡ length (frozen_of (store_in b))
+      counted-all c k = k ∙ ap (λ (o : Option (List Run)). length (or_empty o)) area-reads
+
+      pub counted-few : (c : ℕ) → c ≡ length (or_empty (images_whole.parse (part b (area + 8) (area + 8 + m - (area + 8))))) → c ≤ 16
+      counted-few c k = omega (arith, counted-all c k, there.few)
+
       -- ---- the room
       module _ (c : ℕ) (k : c ≡ length (frozen_of (store_in b))) where
         pub counted-inside : 8 * c ≤ m
@@ -100,8 +115,8 @@ module _ (b : Bytes) (o : octets b ≡ true) (active area : ℕ) (g : Sited b ac
         counted-inside = omega (arith, filled)
 
         -- 'a 17th run'
-        pub fit-seventeen : 16 ≤ c → false ≡ runs_fit (store_in b).settings (runs_of (store_in b))
-        fit-seventeen h = sym (ap (λ (t : Bool). t && leb (area_size (runs_of (store_in b))) (store_in b).settings.area_bytes) (lt-leb (length (runs_of (store_in b))) most_runs (omega arith)))
+        pub fit-seventeen : 16 ≤ c → ltb c 16 ≡ runs_fit (store_in b).settings (runs_of (store_in b))
+        fit-seventeen h = le-ltb c 16 h ∙ sym (ap (λ (t : Bool). t && leb (area_size (runs_of (store_in b))) (store_in b).settings.area_bytes) (lt-leb (length (runs_of (store_in b))) most_runs (omega arith)))
 
         -- 'run area (whole images) too small'
         pub fit-room : c < 16 → (room : ℕ) → room ≡ (store_in b).settings.area_bytes → leb (9 + u + (area + 8 + m - (area + 8) - 8 * c)) room ≡ runs_fit (store_in b).settings (runs_of (store_in b))

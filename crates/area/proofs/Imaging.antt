@@ -1,11 +1,15 @@
--- One image with its length in front, in a buffer: it reads as a run, or it does not.
+-- One image with its length in front: it reads as a run, or it does not.
 -- Assumes nothing.
 use native.Mathlib.Omega.{arith}
-use mathlib.Core.Path.{◌≡◌, refl, sym, ap, ◌∙◌}
+use Rattle.std.specs.Prelude as std
+use Rattle.std.specs.Prelude.{Some, None, Result, Ok, Err}
+use Rattle.std.specs.Result.{result_ok}
+use Rattle.std.specs.Bool.{then_some}
+use mathlib.Core.Path.{◌≡◌, refl, sym, ap, ap₂, ◌∙◌}
 use mathlib.Core.Bool.{true, not}
-use mathlib.Core.Option.{Option, none}
+use mathlib.Core.Option.{Option, none, some}
 use mathlib.Core.List.{[], ◌∷◌}
-use Prim.Native.Nat.{ℕ, ◌+◌, ◌-◌, ◌≤◌, ◌<◌}
+use Prim.Native.Nat.{ℕ, ◌+◌}
 use lib.ListN.{length, drop, length-drop, length-append}
 use lib.Dec.{ltb}
 use borrow.Author.Tests.{lt-ltb, le-ltb}
@@ -13,78 +17,56 @@ use Rattle.paper.specs.Lists.{is_empty}
 use Rattle.paper.specs.Keys.{Bytes, octets}
 use Rattle.paper.specs.Runs.{Run, version_size}
 use Rattle.paper.specs.Image as paper
-use Rattle.paper.specs.Image.{record_bytes, records_bytes, number_from, verdict}
+use Rattle.paper.specs.Image.{record_bytes, records_bytes, verdict}
 use Rattle.paper.proofs.ImageBack.{length-record}
-use Rattle.raw.specs.Bytes.{part}
-use Rattle.raw.proofs.Parts.{length_part}
 use Rattle.raw.proofs.Octets.{octets-part}
 use Rattle.key.proofs.Packed.{packed-run}
 use Rattle.layout.specs.Codec.{lift, sized}
 use Rattle.layout.specs.Layout.{run_of, image}
 use Rattle.run.specs.Checks.{told}
-use Rattle.run.specs.declared.Verdict.TheVariants as verdict
+use Rattle.run.specs.declared.BadImage.{BadImage}
 use Rattle.run.proofs.Images.{Holds, holds-packed, told-holds}
-use Rattle.area.specs.Told.{Imaged}
-use Rattle.area.proofs.Sizing.{sized-short, sized-cut, sized-here}
+use Rattle.area.specs.Told.{Split}
+use Rattle.area.proofs.Sizing.{sized-some}
+use Rattle.area.proofs.Known.{run_latest}
 
 -- an image is longer than its head where its run has a version
-pub some-version : (x : Bytes) (r : Run) → Holds x r → (k n : ℕ) → length x ≡ n → ltb (k + 9) (k + n) ≡ not (is_empty r)
+some-version : (x : Bytes) (r : Run) → Holds x r → ltb 9 (length x) ≡ not (is_empty r)
 unfolding records_bytes version_size
-some-version x r h k n e =
+some-version x r h =
     let p : records_bytes r ≡ drop 9 x = ap records_bytes (sym h.same) ∙ (packed-run (drop 9 x) (holds-packed x r h)).0 in
     go r (omega (arith, ap (λ (b : Bytes). length b) p, length-drop 9 x, h.long))
   where
-    go : (q : Run) → length (records_bytes q) + 9 ≡ n → ltb (k + 9) (k + n) ≡ not (is_empty q)
-    go [] l = le-ltb (k + 9) (k + n) (omega arith)
-    go (v ∷ vs) l = lt-ltb (k + 9) (k + n) (omega (arith, length-append (record_bytes v) (records_bytes vs), length-record v))
+    go : (q : Run) → length (records_bytes q) + 9 ≡ length x → ltb 9 (length x) ≡ not (is_empty q)
+    go [] l = le-ltb 9 (length x) (omega arith)
+    go (v ∷ vs) l = lt-ltb 9 (length x) (omega (arith, length-append (record_bytes v) (records_bytes vs), length-record v))
 
-broken-none : (v : paper.Verdict) → verdict.Broken ≡ told v → run_of v ≡ none
-broken-none (paper.good r) e = let z : ◌≡◌ {A = ℕ} 0 1 = cc in absurd (omega arith)
-broken-none paper.broken e = refl
-broken-none paper.foreign e = refl
+bad-none : (v : paper.Verdict) → None ≡ result_ok (told v) → run_of v ≡ none
+bad-none (paper.good r) e = cc
+bad-none paper.broken e = refl
+bad-none paper.foreign e = refl
 
-foreign-none : (v : paper.Verdict) → verdict.Foreign ≡ told v → run_of v ≡ none
-foreign-none (paper.good r) e = let z : ◌≡◌ {A = ℕ} 0 1 = cc in absurd (omega arith)
-foreign-none paper.broken e = refl
-foreign-none paper.foreign e = refl
+good-told : (v : Result ℕ BadImage) (t : ℕ) → Some t ≡ result_ok v → Ok t ≡ v
+good-told (Ok n) t e = cc
+good-told (Err w) t e = cc
 
-module _ (s : Bytes) (at end : ℕ) (fit : end ≤ length s) where
-  -- the bytes end in the length, or before it
-  pub image-short : at ≤ end → end - at < 8 → (sized 8 image).get (part s at (end - at)) ≡ none
-  image-short h l = sized-short image s at end fit h l
+-- the image in front of some bytes, with its length in front of it, reads as a run, of which this is known
+pub record Imaged (b behind : Bytes) (latest : std.Option ℕ) : Type 0 where
+  pub run : Run
+  pub read : (sized 8 image).get b ≡ some (run, behind)
+  pub last : latest ≡ run_latest run
 
-  module _ (h : at + 8 ≤ end) (n : ℕ) (e : n ≡ number_from 0 (part s at 8)) where
-    pub image-cut : end - (at + 8) < n → (sized 8 image).get (part s at (end - at)) ≡ none
-    image-cut l = sized-cut image s at end fit h n e l
+module _ (b x behind : Bytes) (s : Split b x behind) where
+  pub image-bad : None ≡ result_ok (told (verdict x)) → (sized 8 image).get b ≡ none
+  unfolding image
+  image-bad e = sized-some image b x behind s.read ∙ ap (λ (o : Option Run). lift o behind) (bad-none (verdict x) e)
 
-    module _ (l : at + 8 + n ≤ end) where
-      read-image : (sized 8 image).get (part s at (end - at)) ≡ lift (run_of (verdict (part s (at + 8) n))) (part s (at + 8 + n) (end - (at + 8 + n)))
-      unfolding image
-      read-image = sized-here image s at end fit h n e l
-
-      no-image : run_of (verdict (part s (at + 8) n)) ≡ none → (sized 8 image).get (part s at (end - at)) ≡ none
-      no-image f = read-image ∙ ap (λ (o : Option Run). lift o (part s (at + 8 + n) (end - (at + 8 + n)))) f
-
-      -- the bytes as the verdict was given them
-      same : part s (at + 8) (at + 8 + n - (at + 8)) ≡ part s (at + 8) n
-      same = let z : at + 8 + n - (at + 8) ≡ n = omega arith in ap (part s (at + 8)) z
-
-      pub image-broken : verdict.Broken ≡ told (verdict (part s (at + 8) (at + 8 + n - (at + 8)))) → (sized 8 image).get (part s at (end - at)) ≡ none
-      image-broken f = no-image (broken-none (verdict (part s (at + 8) n)) (f ∙ ap (λ (x : Bytes). told (verdict x)) same))
-
-      pub image-foreign : verdict.Foreign ≡ told (verdict (part s (at + 8) (at + 8 + n - (at + 8)))) → (sized 8 image).get (part s at (end - at)) ≡ none
-      image-foreign f = no-image (foreign-none (verdict (part s (at + 8) n)) (f ∙ ap (λ (x : Bytes). told (verdict x)) same))
-
-      pub image-good : octets s ≡ true → (time : ℕ) → verdict.Good time ≡ told (verdict (part s (at + 8) (at + 8 + n - (at + 8))))
-          → Imaged s at end (at + 8 + n) (ltb (at + 8 + 9) (at + 8 + n)) time
-      image-good o time f =
-          let x : Bytes = part s (at + 8) n in
-          let (r, g, k, holds) = told-holds x time (octets-part s (at + 8) n o) (f ∙ ap (λ (y : Bytes). told (verdict y)) same) in
-          record {
-            run = r;
-            read = read-image ∙ ap (λ v. lift (run_of v) (part s (at + 8 + n) (end - (at + 8 + n)))) g;
-            onward = omega arith;
-            inside = l;
-            some-version = some-version x r holds (at + 8) n (length_part s (at + 8) n (omega arith));
-            last = k;
-          }
+  pub image-good : octets b ≡ true → (t : ℕ) → Some t ≡ result_ok (told (verdict x)) → Imaged b behind (then_some (ltb 9 (length x)) t)
+  unfolding image
+  image-good o t e =
+      let (r, g, k, holds) = told-holds x t (ap octets s.here ∙ octets-part b 8 (length x) o) (good-told (told (verdict x)) t e) in
+      record {
+        run = r;
+        read = sized-some image b x behind s.read ∙ ap (λ v. lift (run_of v) behind) g;
+        last = ap₂ then_some (some-version x r holds) k;
+      }

@@ -4,8 +4,8 @@ use native.Mathlib.Omega.{arith}
 use mathlib.Core.Path.{◌≡◌, refl, sym, ap, ap₂, ◌∙◌, subst}
 use mathlib.Core.Bool.{true}
 use mathlib.Core.Option.{Option, none, some}
-use mathlib.Core.List.{List, [], ◌∷◌, ◌++◌, append_assoc, reverse}
-use Prim.Native.Nat.{ℕ, ◌+◌, ◌-◌, ◌≤◌, ◌<◌}
+use mathlib.Core.List.{List, ◌∷◌, ◌++◌, append_assoc, reverse}
+use Prim.Native.Nat.{ℕ, ◌+◌, ◌-◌, ◌≤◌}
 use lib.ListN.{length, take, drop, length-append}
 use lib.Seq.{take_at, drop_at}
 use Rattle.paper.specs.Keys.{Bytes, octets}
@@ -82,21 +82,11 @@ module _ (s : Bytes) (i end : ℕ) where
             };
       }
 
-  -- none are left at the end, and before it there is one
-  pub lying_none : (ys : List Run) → Lying s i end ys → end ≤ i → ys ≡ []
-  lying_none [] h l = refl
-  lying_none (y ∷ ys) h l = absurd (omega (arith, (foremost y ys h).fits))
-
-  pub lying-more : (ys : List Run) → Lying s i end ys → i < end → (y : Run) × (zs : List Run) × (ys ≡ y ∷ zs)
-  unfolding put_all
-  lying-more [] h l = absurd (omega (arith, length_part s i (end - i) (omega (arith, h.inside)), ap (λ (b : Bytes). length b) h.bytes))
-  lying-more (y ∷ ys) h l = (y, ys, refl)
-
   -- images that read: the last in run order lies first
   pub lying-read : octets s ≡ true → i ≤ end → end ≤ length s → (fs : List Run) → images_whole.parse (part s i (end - i)) ≡ some fs → Lying s i end (reverse fs)
   unfolding images_whole whole_via many
   lying-read o a b fs e = go (images_whole.parse (part s i (end - i))) (whole-images.again (part s i (end - i)) (octets-part s i (end - i) o)) e
     where
       go : (q : Option (List Run)) → Formed images_whole.form (λ rs. All OkSized (reverse rs)) (part s i (end - i)) q → q ≡ some fs → Lying s i end (reverse fs)
-      go none f e = let z : ◌≡◌ {A = ℕ} 0 1 = cc in absurd (omega arith)
+      go none f e = cc
       go (some rs) f e = let g : rs ≡ fs = cc in subst (λ (xs : List Run). Lying s i end (reverse xs)) g (record { ahead = a; inside = b; bytes = f.0; good = f.1 })

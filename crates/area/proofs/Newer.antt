@@ -3,35 +3,33 @@
 use native.Mathlib.Omega.{arith}
 use mathlib.Core.Path.{◌≡◌, refl, sym, ap, ap₂, ◌∙◌}
 use mathlib.Core.Bool.{Bool, true, false, not, ◌&&◌, ◌||◌}
-use mathlib.Core.List.{List, [], ◌∷◌, ◌++◌}
-use Prim.Native.Nat.{ℕ, ◌≤◌, min, max}
+use mathlib.Core.List.{List, [], ◌∷◌}
+use Prim.Native.Nat.{ℕ, ◌<◌, ◌≤◌, min, max}
 use lib.ListN.{length}
-use lib.Dec.{leb, ltb}
+use lib.Dec.{leb, ltb, eqb}
 use borrow.Author.Tests.{lt-ltb, le-ltb, ltb-true, ltb-false, leb-true, le-leb, eq-eqb, ne_eqb}
 use Rattle.paper.specs.Lists.{all, is_empty, join}
 use Rattle.paper.specs.Keys.{Version}
 use Rattle.paper.specs.Runs.{Run, is_run}
 use Rattle.paper.specs.Settings.{most_number}
-use Rattle.paper.specs.Store.{latest, latest_of}
+use Rattle.paper.specs.Store.{latest}
 use Rattle.paper.specs.Sound.{sound_key, sound_value, sound_version, sound_run, newer_than}
 use Rattle.paper.proofs.Bools.{and_left, and_right}
 use Rattle.paper.proofs.Alls.{all-mono}
 use Rattle.run.specs.Tallies.{earliest, tally_of}
 use Rattle.run.specs.declared.tally.Tally.{Tally}
-use Rattle.area.specs.Told.{others_of, newer_by}
+use Rattle.std.specs.Prelude.{Option, Some, None}
+use Rattle.std.specs.Bool.{then_some}
+use Rattle.std.specs.Option.{option_partial_cmp}
+use Rattle.std.specs.Ordering.{nat_cmp, is_lt, partial_lt, as_partial_cmp, MatchOrdering}
+use Rattle.std.specs.Cmp.{ranks}
+use Rattle.std.specs.declared.cmp.Ordering.{Ordering}
+use Rattle.std.specs.declared.cmp.Ordering.TheVariants.{Less, Equal, Greater}
+use Rattle.area.specs.Told.{others_of, is_below, newer_by}
+use Rattle.area.proofs.Known.{latest-join}
 use Rattle.area.specs.declared.check.Others.{Others}
 
 -- ---- later than all
-latest-two : (r q : Run) → latest (r ++ q) ≡ max (latest r) (latest q)
-unfolding latest
-latest-two [] q = omega arith
-latest-two (v ∷ r) q = let h = latest-two r q in omega arith
-
-latest-join : (rs : List Run) → latest_of rs ≡ latest (join rs)
-unfolding latest_of join latest
-latest-join [] = refl
-latest-join (r ∷ rs) = ap (max (latest r)) (latest-join rs) ∙ sym (latest-two r (join rs))
-
 below_two : (a b t : ℕ) → ltb (max a b) t ≡ ltb a t && ltb b t
 below_two a b t = go (ltb a t) (ltb b t) refl refl
   where
@@ -85,10 +83,10 @@ newer-of : (r : Run) (rs : List Run) → all InTime r ≡ true → newer_by (tal
 unfolding newer_by tally_of others_of newer_than all
 newer-of [] rs h = refl
 newer-of (v ∷ vs) rs h =
-    ap₂ (λ (b : Bool) (n : ℕ). (b || not (not (is_empty (join rs)))) || ltb n (earliest (v ∷ vs))) (ne_eqb (length (v ∷ vs)) 0 (λ e. omega arith)) (latest-join rs)
+    ap₂ (λ (b : Bool) (n : ℕ). b || is_below (then_some (not (is_empty (join rs))) n) (earliest (v ∷ vs))) (ne_eqb (length (v ∷ vs)) 0 (λ e. omega arith)) (latest-join rs)
     ∙ go (join rs)
   where
-    go : (ws : Run) → (false || not (not (is_empty ws))) || ltb (latest ws) (earliest (v ∷ vs)) ≡ all (λ u. all (λ w. ltb w.time u.time) ws) (v ∷ vs)
+    go : (ws : Run) → is_below (then_some (not (is_empty ws)) (latest ws)) (earliest (v ∷ vs)) ≡ all (λ u. all (λ w. ltb w.time u.time) ws) (v ∷ vs)
     go [] = sym (all_true (v ∷ vs))
     go (w ∷ ws) =
         sym (all_above v vs (latest (w ∷ ws)) h)
@@ -106,18 +104,24 @@ unfolding sound_run
 newer-is clock c r rs h = newer-of r rs (in-time clock c r (and_right (is_run r) (all (sound_version clock) r) h))
 
 -- ---- what the tests find
+pub less-is : (m n : ℕ) → is_lt (nat_cmp m n) ≡ ltb m n
+less-is m n = go (nat_cmp m n) (ranks m n)
+  where
+    go : (o : Ordering) → MatchOrdering o (m < n) (m ≡ n) (n < m) → is_lt o ≡ ltb m n
+    go Less h = sym (lt-ltb m n h)
+    go Equal h = sym (le-ltb m n (omega (arith, h)))
+    go Greater h = sym (le-ltb m n (omega arith))
+
+-- std's order of what may be missing: nothing stands first
+pub below-less : (o : Option ℕ) (t : ℕ) → partial_lt (option_partial_cmp (as_partial_cmp nat_cmp)) o (Some t) ≡ is_below o t
+below-less None t = refl
+below-less (Some l) t = less-is l t
+
 module _ (t : Tally) (o : Others) where
-  pub newer-none : t.count ≡ 0 → true ≡ newer_by t o
+  pub newer-none : t.count ≡ 0 → eqb t.count 0 ≡ newer_by t o
   unfolding newer_by
-  newer-none e = sym (ap (λ (b : Bool). (b || not o.any) || ltb o.latest t.earliest) (eq-eqb t.count 0 e))
+  newer-none e = eq-eqb t.count 0 e ∙ sym (ap (λ (b : Bool). b || is_below o.latest t.earliest) (eq-eqb t.count 0 e))
 
-  module _ (some : t.count ≡ 0 → ⊥) where
-    rest : newer_by t o ≡ not o.any || ltb o.latest t.earliest
-    unfolding newer_by
-    rest = ap (λ (b : Bool). (b || not o.any) || ltb o.latest t.earliest) (ne_eqb t.count 0 some)
-
-    pub newer-alone : not o.any ≡ true → true ≡ newer_by t o
-    newer-alone e = sym (rest ∙ ap (λ (b : Bool). b || ltb o.latest t.earliest) e)
-
-    pub newer-both : not o.any ≡ false → ltb o.latest t.earliest ≡ newer_by t o
-    newer-both e = sym (rest ∙ ap (λ (b : Bool). b || ltb o.latest t.earliest) e)
+  pub newer-some : (t.count ≡ 0 → ⊥) → is_below o.latest t.earliest ≡ newer_by t o
+  unfolding newer_by
+  newer-some e = sym (ap (λ (b : Bool). b || is_below o.latest t.earliest) (ne_eqb t.count 0 e))

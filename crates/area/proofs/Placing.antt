@@ -161,7 +161,7 @@ module _ (s : Bytes) (o : octets s ≡ true) (fs : List Run) (first : Cursor) (n
 
 -- the active run's cursor in front
 front-take : (first : Cursor) (cs : List Cursor) (n : ℕ) → take 1 cs ≡ first ∷ [] → take (n + 1) cs ≡ first ∷ take n (drop 1 cs)
-front-take first [] n e = absurd (let z : ◌≡◌ {A = ℕ} 0 1 = cc in omega arith)
+front-take first [] n e = cc
 front-take first (c ∷ cs) n e = let f : c ≡ first = cc in rw add-one (ap {B = List Cursor} (λ x. x ∷ take n cs) f)
 
 module _ (s : Bytes) (active area : ℕ) (there : Sites s active area (store_in s).active (frozen_of (store_in s))) (u : ℕ) (e : u ≡ number_from 0 (part s active 8)) where

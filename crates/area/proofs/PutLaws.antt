@@ -1,12 +1,13 @@
 -- Good images written into the run area, from the last to the first.
 -- Assumes nothing.
 use native.Mathlib.Omega.{arith}
-use mathlib.Core.Path.{◌≡◌, refl, sym, ap, ap₂, ◌∙◌}
+use mathlib.Core.Path.{◌≡◌, refl, sym, ap, ap₂, ◌∙◌, subst}
 use mathlib.Core.Bool.{Bool, true, false, cond}
 use mathlib.Core.List.{List, [], ◌∷◌, ◌++◌, map, reverse, reverse-cons}
 use Prim.Native.Nat.{ℕ, zero, suc, ◌+◌, ◌*◌, ◌-◌, ◌≤◌, ◌<◌}
-use lib.ListN.{length, take, drop, get_or, length-append, length-drop, drop_of_length-le}
-use lib.Seq.{drop-drop, take-length}
+use lib.ListN.{length, take, drop, get_or, length-append, length-drop, length-take, drop_of_length-le}
+use lib.Seq.{drop-drop, take-length, take_at, take-take, get_or-take}
+use Rattle.std.proofs.lemmas.List.{length_push, get_or_push}
 use lib.Dec.{leb}
 use borrow.Author.Tests.{le-leb, leb-true}
 use Rattle.paper.specs.Lists.{total}
@@ -105,7 +106,7 @@ not-cut s n r e = go (leb n (length s)) refl
     go true f = leb-true n (length s) f
     go false f =
         let g : paper.broken ≡ paper.good r = sym (verdict-short [] (omega arith)) ∙ sym (ap (λ (t : Bool). verdict (cond t (take n s) [])) f) ∙ e in
-        absurd (let z : ◌≡◌ {A = ℕ} 0 1 = cc in omega arith)
+        cc
 
 wholes : (s : Bytes) → octets s ≡ true → (k at : ℕ) (ns : List ℕ) (rs : List Run) → at ≤ length s → open_runs k (images_in (drop at s) ns) ≡ go rs → Wholes s at ns rs
 unfolding images_in open_runs
@@ -193,7 +194,7 @@ module _ (images : Bytes) (ns : List ℕ) (o : octets images ≡ true) (good : g
   runs-wholes = go' (open_runs 1 (images_in images ns)) refl good
     where
       go' : (m : Try (List Run)) → open_runs 1 (images_in images ns) ≡ m → passes m ≡ true → Wholes images 0 ns (runs_or m)
-      go' (stop r) e h = let z : ◌≡◌ {A = ℕ} 0 1 = cc in absurd (omega arith)
+      go' (stop r) e h = cc
       go' (go rs) e h = wholes images o 1 0 ns rs (omega arith) e
 
   -- they have together what their lengths say
@@ -268,11 +269,72 @@ module _ (images : Bytes) (ns : List ℕ) (o : octets images ≡ true) (good : g
           ∙ ap₂ (λ (j : ℕ) (u : Bytes). over b at (big_endian 8 j ++ u)) n p
           ∙ ap (over b at) (sym (sized-put images_whole 8 rs))
 
--- ---- a length and its bytes
-pub put-sized : (l : Bytes) (at : ℕ) (x : Bytes) → at ≤ length l → over (over l at (big_endian 8 (length x))) (at + 8) x ≡ over l at ((sized 8 plain).put x)
-put-sized l at x h =
-    over-after l at (big_endian 8 (length x)) h (at + 8) x (ap (λ (k : ℕ). at + k) (sym (length-big_endian 8 (length x)))) ∙ ap (over l at) (sym (sized-plain x))
-
 -- a write leaves the length
-pub same-long : (t s : Bytes) (at : ℕ) (x : Bytes) → t ≡ over s at x → at + length x ≤ length s → length t ≡ length s
+same-long : (t s : Bytes) (at : ℕ) (x : Bytes) → t ≡ over s at x → at + length x ≤ length s → length t ≡ length s
 same-long t s at x e h = ap (λ (u : Bytes). length u) e ∙ length_over s at x h
+
+-- ---- the turns, by the lengths that are left: of those qs, and behind them n
+record Last (ns qs : List ℕ) (n : ℕ) : Type 0 where
+  there : length qs < length ns
+  front : qs ≡ take (length qs) ns
+  is : n ≡ get_or ns (length qs) 0
+
+last-of : (ns rest qs : List ℕ) (n : ℕ) → rest ≡ take (length rest) ns → rest ≡ qs ++ n ∷ [] → Last ns qs n
+last-of ns rest qs n f e =
+    let l : length rest ≡ length qs + 1 = ap (λ (xs : List ℕ). length xs) e ∙ length_push qs n in
+    let t : length rest ≤ length ns = omega (arith, ap (λ (xs : List ℕ). length xs) f, length-take (length rest) ns) in
+    record {
+      there = omega arith;
+      front = sym (take_at qs (n ∷ []) (length qs) refl) ∙ ap (take (length qs)) (sym e ∙ f) ∙ take-take (length qs) (length rest) ns (omega arith);
+      is = sym (get_or_push qs n 0 (length qs) refl) ∙ ap (λ (xs : List ℕ). get_or xs (length qs) 0) (sym e ∙ f) ∙ get_or-take (length rest) ns (length qs) 0 (omega arith);
+    }
+
+-- what is known of the last image that is left, of n bytes
+pub record Turn (s₀ : Bytes) (start : ℕ) (images : Bytes) (ns : List ℕ) (s : Bytes) (end to : ℕ) (qs : List ℕ) (n : ℕ) : Type 0 where
+  pub front : qs ≡ take (length qs) ns
+  pub less : n ≤ end
+  pub inside : end ≤ length images
+  pub room : to + length ((sized 8 plain).put (part images (end - n) (end - (end - n)))) ≤ length s
+  pub size : length ((sized 8 plain).put (part images (end - n) (end - (end - n)))) ≡ 8 + (end - (end - n))
+  pub next : (t : Bytes) → t ≡ over s to ((sized 8 plain).put (part images (end - n) (end - (end - n)))) → Putting s₀ start images ns t (end - n) (length qs) (to + (8 + (end - (end - n))))
+
+module _ (images : Bytes) (ns : List ℕ) (o : octets images ≡ true) (good : good_images images ns ≡ true) (b : Bytes) (at : ℕ)
+    (fit : at + (8 + (8 * length ns + total length (images_in images ns))) ≤ length b) (all : ℕ) (e : all ≡ total length (images_in images ns))
+    (s₀ : Bytes) (w : s₀ ≡ over b at (big_endian 8 (8 * length ns + all))) where
+  pub long : length s₀ ≡ length b
+  long = same-long s₀ b at (big_endian 8 (8 * length ns + all)) w (omega (arith, length-big_endian 8 (8 * length ns + all)))
+
+  room : at + 8 + (8 * length ns + total length (images_in images ns)) ≤ length s₀
+  room = omega (arith, long)
+
+  pub putting-start : Putting s₀ (at + 8) images ns s₀ all (length ns) (at + 8)
+  putting-start = put-start images ns o good s₀ (at + 8) room all e
+
+  module _ (s : Bytes) (end to : ℕ) (rest : List ℕ) (front : rest ≡ take (length rest) ns) (so : Putting s₀ (at + 8) images ns s end (length rest) to) where
+    pub putting-done : length rest ≡ 0 → s ≡ over b at (images_stream.put (runs_in images ns))
+    putting-done z =
+        put-done images ns o good s₀ (at + 8) room s end (length rest) to so (omega arith) b at (omega arith) refl
+        (w ∙ ap (λ (n : ℕ). over b at (big_endian 8 (8 * length ns + n))) e)
+
+    module _ (qs : List ℕ) (n : ℕ) (step : rest ≡ qs ++ n ∷ []) where
+      pub putting-turn : Turn s₀ (at + 8) images ns s end to qs n
+      putting-turn =
+          let h = last-of ns rest qs n front step in
+          let l : length rest ≡ length qs + 1 = ap (λ (xs : List ℕ). length xs) step ∙ length_push qs n in
+          let j : length rest - 1 ≡ length qs = omega arith in
+          let k = put_next images ns o good s₀ (at + 8) room s end (length rest) to so (omega arith) n (h.is ∙ ap (λ (i : ℕ). get_or ns i 0) (sym j)) in
+          let x : Bytes = part images (end - n) (end - (end - n)) in
+          let p : length x ≡ end - (end - n) = length_part images (end - n) (end - (end - n)) (omega (arith, k.less, k.inside)) in
+          let q : length ((sized 8 plain).put x) ≡ 8 + (end - (end - n)) = omega (arith, plain-long x) in
+          let u : end - (end - n) ≡ n = omega (arith, k.less) in
+          let v : to + length ((sized 8 plain).put x) ≤ length s = omega (arith, k.room) in
+          record {
+            front = h.front;
+            less = k.less;
+            inside = k.inside;
+            room = v;
+            size = q;
+            next = λ t f.
+                subst (λ (i : ℕ). Putting s₀ (at + 8) images ns t (end - n) i (to + (8 + (end - (end - n))))) j
+                (subst (λ (m : ℕ). Putting s₀ (at + 8) images ns t (end - n) (length rest - 1) (to + (8 + m))) (sym u) (k.next t (same-long t s to ((sized 8 plain).put x) f v) f));
+          }

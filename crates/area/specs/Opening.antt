@@ -1,16 +1,17 @@
 -- What the functions over the opening images answer.
 -- Assumes nothing.
-use Rattle.std.specs.Prelude.{ℕ, ◌≤◌, ◌≡◌, Bool, true, false, cond, List, [], leb, length, take}
+use Rattle.std.specs.Prelude.{ℕ, ◌≤◌, ◌≡◌, Bool, true, false, cond, List, [], leb, length, take, Result, Ok, Err}
 use Rattle.paper.specs.Lists.{total}
 use Rattle.paper.specs.Keys.{Bytes}
 use Rattle.paper.specs.Runs.{Run}
 use Rattle.paper.specs.Settings.{Settings}
 use Rattle.paper.specs.Store.{latest_of}
-use Rattle.paper.specs.Refusals.{Try, stop, go, bad_run, foreign_run, ◌>>=◌}
+use Rattle.paper.specs.Refusals.{Refusal, Try, stop, go, bad_run, foreign_run, ◌>>=◌}
 use Rattle.paper.specs.Room.{images_fit}
 use Rattle.paper.specs.Calls.{open_runs, images_in}
-use Rattle.area.specs.declared.opening.OpenCheck.{OpenCheck}
-use Rattle.area.specs.declared.opening.OpenCheck.TheVariants.{Good, Broken, Foreign}
+use Rattle.run.specs.declared.BadImage.{BadImage}
+use Rattle.run.specs.declared.BadImage.TheVariants.{Broken, Foreign}
+use Rattle.area.specs.declared.opening.BadRun.{BadRun}
 
 -- the image of n bytes in front of some bytes, as paper's `images_in` hands it on
 abbrev pub image_in : Bytes → ℕ → Bytes
@@ -21,10 +22,13 @@ unfoldable pub clock_of : Try (List Run) → Try ℕ
 clock_of m = m >>= λ rs. go (latest_of rs)
 
 -- what an answer says: the clock; 10 or 11 at a place
-abbrev pub open_answer : OpenCheck → Try ℕ
-open_answer (Good clock) = go clock
-open_answer (Broken place) = stop (bad_run place)
-open_answer (Foreign place) = stop (foreign_run place)
+abbrev pub refused_for : ℕ → BadImage → Refusal
+refused_for place Broken = bad_run place
+refused_for place Foreign = foreign_run place
+
+abbrev pub open_answer : Result ℕ BadRun → Try ℕ
+open_answer (Ok clock) = go clock
+open_answer (Err e) = stop (refused_for e.place e.why)
 
 -- the images are all good, and these are their runs; none where one is not good
 abbrev pub passes : Try (List Run) → Bool

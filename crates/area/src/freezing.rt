@@ -12,7 +12,7 @@ pub fn is_empty(state: &[u8], active: usize, area: usize) -> bool
     requires { Sited state.now active area }
     ensures { result ≡ is_empty (store_in state.now).active }
 {
-    raw::be64(state, active) == 0
+    raw::number::<8>(state, active) == 0
 }
 
 // Whether a run area of `room` bytes has room for the active run's image beside the others: 'whole images', and no 17th run.
@@ -20,14 +20,11 @@ pub fn freeze_fits(state: &[u8], active: usize, area: usize, room: usize) -> boo
     requires { Sited state.now active area × (room ≡ (store_in state.now).settings.area_bytes) }
     ensures { result ≡ runs_fit (store_in state.now).settings (runs_of (store_in state.now)) }
 {
-    let used = raw::be64(state, active) as usize;
+    let used = raw::number::<8>(state, active) as usize;
     let from = area + 8;
-    let end = from + raw::be64(state, area) as usize;
-    let count = super::cursors::count_images(state, from, end);
-    if 16 <= count {
-        return false;
-    }
-    9 + used + (end - from - 8 * count) <= room
+    let end = from + raw::number::<8>(state, area) as usize;
+    let count = super::cursors::count_images(&state[from..end]);
+    count < 16 && 9 + used + (end - from - 8 * count) <= room
 }
 
 // Freezes the active run: its image goes behind the others, which stay where they are, and its length in front of it; then both counts of used bytes.
@@ -36,11 +33,11 @@ pub fn freeze(state: &mut [u8], active: usize, area: usize)
     ensures { state.new ≡ write_store (frozen_store (store_in state.old)) state.old }
 {
     let from = active + 8;
-    let used = raw::be64(state, active) as usize;
-    let filled = raw::be64(state, area) as usize;
+    let used = raw::number::<8>(state, active) as usize;
+    let filled = raw::number::<8>(state, area) as usize;
     let to = area + 8 + filled;
     run::write::freeze_into(state, to + 8, from, from + used);
-    raw::put_be64(state, to, (9 + used) as u64);
-    raw::put_be64(state, area, (filled + 17 + used) as u64);
-    raw::put_be64(state, active, 0);
+    raw::put_number::<8>(state, to, (9 + used) as u64);
+    raw::put_number::<8>(state, area, (filled + 17 + used) as u64);
+    raw::put_number::<8>(state, active, 0);
 }

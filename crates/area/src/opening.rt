@@ -1,85 +1,56 @@
 // Opening: the images that a host lends, one after the other in one slice, with the length of each.
-ghost use Rattle.std.specs.Prelude.{◌≡◌, true, cond, ◌+◌, ◌*◌, ◌≤◌, min, leb, length, drop};
+ghost use Rattle.std.specs.Prelude.{◌≡◌, true, ◌+◌, ◌*◌, ◌≤◌, length, drop};
 ghost use Rattle.paper.specs.Lists.{total};
-ghost use Rattle.paper.specs.Image.{verdict};
 ghost use Rattle.paper.specs.Calls.{open_runs, images_in};
 ghost use Rattle.raw.specs.Bytes.{over};
 ghost use Rattle.layout.specs.Codec.{sized, plain};
 ghost use Rattle.layout.specs.Layout.{images_stream};
-ghost use Rattle.run.specs.Checks.{told};
 ghost use Rattle.area.specs.Opening.{open_answer, clock_of, image_in, FitTold, Total, good_images, runs_in};
 
-use run::Verdict;
+use run::BadImage;
 
-// The opening images are all good, with the largest timestamp among their records, 0 if there are none; or the first that is not, by its place from 1.
-#[derive(Clone, Copy)]
-pub enum OpenCheck {
-    Good { clock: u64 },
-    Broken { place: usize },
-    Foreign { place: usize },
+// The first opening image that is not good, by its place from 1.
+#[derive(Clone, Copy, Debug, PartialEq, Eq)]
+pub struct BadRun {
+    pub place: usize,
+    pub why: BadImage,
 }
 
-// The verdict on the image of n bytes at `at`; one 'that ends past those bytes is cut, and so handed on as no bytes'.
-fn image_verdict(images: &[u8], at: usize, n: u64) -> Verdict
-    requires { at ≤ length images.now }
-    ensures { result ≡ told (verdict (image_in (drop at images.now) n)) }
+// The image of n bytes in front of some bytes, and the bytes behind it; one 'that ends past those bytes is cut, and so handed on as no bytes'.
+fn split_image(bytes: &[u8], n: u64) -> (&[u8], &[u8])
+    ensures image { result.0.now ≡ image_in bytes.now n }
+    ensures behind { result.1.now ≡ drop n bytes.now }
 {
-    if ((images.len() - at) as u64) < n {
-        return Verdict::Broken;
-    }
-    let end = at + n as usize;
-    run::image::verdict(&images[at..end])
+    bytes.split_at_checked(n as usize).unwrap_or((b"", b""))
 }
 
-// 'The runs from the first, 10 or 11', and 'the clock at opening'.
-pub fn open_check(images: &[u8], lengths: &[u64]) -> OpenCheck
+// The largest timestamp among the records of all images, 0 if there are none: 'the clock at opening', where they are all good.
+pub fn open_check(images: &[u8], lengths: &[u64]) -> Result<u64, BadRun>
     ensures { open_answer result ≡ clock_of (open_runs 1 (images_in images.now lengths.now)) }
 {
-    let mut at = 0;
-    let mut i = 0;
-    let mut clock = 0;
-    while i < lengths.len() {
-        let n = lengths[i];
-        match image_verdict(images, at, n) {
-            Verdict::Broken => return OpenCheck::Broken { place: i + 1 },
-            Verdict::Foreign => return OpenCheck::Foreign { place: i + 1 },
-            Verdict::Good { latest } => {
-                clock = super::check::later(clock, latest);
-                at = at + n as usize;
-                i += 1;
-            }
+    let mut rest = images;
+    let mut clock: u64 = 0;
+    for (i, n) in lengths.iter().enumerate() {
+        let (image, behind) = split_image(rest, *n);
+        match run::image::verdict(image) {
+            Ok(latest) => clock = clock.max(latest),
+            Err(why) => return Err(BadRun { place: i + 1, why }),
         }
+        rest = behind;
     }
-    OpenCheck::Good { clock: clock }
-}
-
-// How far n bytes reach, of those that are left.
-fn reach(left: usize, n: u64) -> usize
-    ensures { result ≡ min n left }
-{
-    if n <= left as u64 { n as usize } else { left }
-}
-
-// How many bytes an image has: none where it is cut.
-fn whole(left: usize, n: u64) -> usize
-    ensures { result ≡ cond (leb n left) n 0 }
-{
-    if n <= left as u64 { n as usize } else { 0 }
+    Ok(clock)
 }
 
 // How many bytes the images have together.
 pub fn images_total(images: &[u8], lengths: &[u64]) -> usize
     ensures { Total images.now lengths.now result }
 {
-    let mut at = 0;
+    let mut rest = images;
     let mut sum = 0;
-    let mut i = 0;
-    while i < lengths.len() {
-        let n = lengths[i];
-        let left = images.len() - at;
-        sum = sum + whole(left, n);
-        at = at + reach(left, n);
-        i += 1;
+    for n in lengths {
+        let (image, behind) = split_image(rest, *n);
+        sum += image.len();
+        rest = behind;
     }
     sum
 }
@@ -88,22 +59,10 @@ pub fn images_total(images: &[u8], lengths: &[u64]) -> usize
 pub fn images_fit(images: &[u8], lengths: &[u64], area: u64) -> bool
     ensures { FitTold images.now lengths.now area result }
 {
-    if 16 < lengths.len() {
-        return false;
-    }
-    images_total(images, lengths) as u64 <= area
+    lengths.len() <= 16 && images_total(images, lengths) as u64 <= area
 }
 
 // ---- into the run area
-
-// Writes bytes with the number of them in front.
-fn put_sized(state: &mut [u8], at: usize, x: &[u8])
-    requires { at + (8 + length x.now) ≤ length state.old }
-    ensures { state.new ≡ over state.old at ((sized 8 plain).put x.now) }
-{
-    raw::put_be64(state, at, x.len() as u64);
-    raw::copy_at(state, at + 8, x);
-}
 
 // Writes good images into the run area at `at`, the last of them first, each with its length in front.
 pub fn put_images(state: &mut [u8], at: usize, images: &[u8], lengths: &[u64])
@@ -111,15 +70,12 @@ pub fn put_images(state: &mut [u8], at: usize, images: &[u8], lengths: &[u64])
     ensures { state.new ≡ over state.old at (images_stream.put (runs_in images.now lengths.now)) }
 {
     let mut end = images_total(images, lengths);
-    let mut i = lengths.len();
-    raw::put_be64(state, at, (8 * i + end) as u64);
+    raw::put_number::<8>(state, at, (8 * lengths.len() + end) as u64);
     let mut to = at + 8;
-    while 0 < i {
-        i -= 1;
-        let n = lengths[i] as usize;
-        let from = end - n;
-        put_sized(state, to, &images[from..end]);
-        to = to + (8 + n);
+    for n in lengths.iter().rev() {
+        let from = end - *n as usize;
+        raw::put_sized::<8>(state, to, &images[from..end]);
+        to += 8 + (end - from);
         end = from;
     }
 }

@@ -9,7 +9,7 @@ use lib.Dec.{ltb}
 use borrow.Author.Tests.{lt-ltb, le-ltb}
 use Rattle.paper.specs.Lists.{is_empty}
 use Rattle.paper.specs.History.{Opponent, opponent, conflict}
-use Rattle.paper.specs.Refusals.{no_handle, is_closed, no_room, counter_full, history, active_run, conflicts, stop, go, must, whether, ◌>>=◌, ◌>>◌}
+use Rattle.paper.specs.Refusals.{Refusal, no_room, counter_full, history, active_run, conflicts, stop, go, must, whether, ◌>>=◌, ◌>>◌}
 use Rattle.paper.specs.Room.{history_fits, active_fits}
 use Rattle.paper.specs.Settings.{most_number}
 use Rattle.paper.specs.Sound.{sound}
@@ -17,26 +17,20 @@ use Rattle.paper.specs.Store.{Txn, Store, find_txn, closed, with_txn}
 use Rattle.paper.specs.Calls.{committed, refused, in_txn, in_open_txn, history_after, active_after, stored, try_store, judged, try_commit}
 
 -- ---- 3, 4, and whether there are writes
-module _ (s : Store) (h : sound s ≡ true) (handle : ℕ) where
-  pub commit-missing : find_txn handle s.places ≡ none → try_commit s handle ≡ stop no_handle
-  unfolding try_commit in_open_txn in_txn must ◌>>◌ ◌>>=◌
-  commit-missing e = rw h (rw e refl)
+pub commit_unentered : (s : Store) (handle : ℕ) (w : Refusal) → in_open_txn s handle ≡ stop w → try_commit s handle ≡ stop w
+unfolding try_commit ◌>>=◌
+commit_unentered s handle w e = rw e refl
 
-  module _ (t : Txn) (e : find_txn handle s.places ≡ some t) where
-    pub commit-closed : t.open? ≡ false → try_commit s handle ≡ stop is_closed
-    unfolding try_commit in_open_txn in_txn must ◌>>◌ ◌>>=◌
-    commit-closed f = rw h (rw e (rw f refl))
+module _ (s : Store) (h : sound s ≡ true) (handle : ℕ) (t : Txn) (e : find_txn handle s.places ≡ some t) (f : t.open? ≡ true) where
+  -- 'commit without writes: accepted, nothing checked or stored; the clock stays'
+  pub commit-none : is_empty t.own ≡ true → try_commit s handle ≡ go (record { reply = committed none; store = with_txn (closed t) s })
+  unfolding try_commit in_open_txn in_txn must whether ◌>>◌ ◌>>=◌
+  commit-none k = rw h (rw e (rw f (rw k refl)))
 
-    module _ (f : t.open? ≡ true) where
-      -- 'commit without writes: accepted, nothing checked or stored; the clock stays'
-      pub commit-none : is_empty t.own ≡ true → try_commit s handle ≡ go (record { reply = committed none; store = with_txn (closed t) s })
-      unfolding try_commit in_open_txn in_txn must whether ◌>>◌ ◌>>=◌
-      commit-none k = rw h (rw e (rw f (rw k refl)))
-
-      -- 'there are writes, and a history entry ..'
-      pub commit-some : is_empty t.own ≡ false → try_commit s handle ≡ judged s t (opponent t.read t.reads s.history)
-      unfolding try_commit in_open_txn in_txn must whether conflict ◌>>◌ ◌>>=◌
-      commit-some k = rw h (rw e (rw f (rw k refl)))
+  -- 'there are writes, and a history entry ..'
+  pub commit-some : is_empty t.own ≡ false → try_commit s handle ≡ judged s t (opponent t.read t.reads s.history)
+  unfolding try_commit in_open_txn in_txn must whether conflict ◌>>◌ ◌>>=◌
+  commit-some k = rw h (rw e (rw f (rw k refl)))
 
 -- ---- 6
 module _ (s : Store) (t : Txn) where

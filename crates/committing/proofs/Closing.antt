@@ -1,12 +1,11 @@
 -- The transaction of a handle is closed: its mark alone is written.
 -- Assumes nothing.
-use Prim.Native.Nat.{ℕ, ◌+◌, ◌≤◌, ◌<◌}
-use native.Mathlib.Omega.{arith}
+use Prim.Native.Nat.{ℕ, ◌+◌}
 use mathlib.Core.Path.{◌≡◌, sym, ap, ◌∙◌}
 use mathlib.Core.Bool.{Bool, true}
 use mathlib.Core.List.{List}
 use mathlib.Core.Option.{Option, some}
-use lib.ListN.{length, set}
+use lib.ListN.{set}
 use Rattle.paper.specs.Keys.{Bytes, octets}
 use Rattle.paper.specs.Image.{big_endian}
 use Rattle.paper.specs.Store.{Txn, Store, put_txn, closed, with_places, with_txn}
@@ -18,7 +17,7 @@ use Rattle.settings.specs.Shapes.{shape_of}
 use Rattle.settings.specs.declared.Shape.{Shape}
 use Rattle.seat.specs.Seats.{Seated}
 use Rattle.committing.specs.Held.{Placed, held_at}
-use Rattle.committing.proofs.Held.{held-lies, held-is}
+use Rattle.committing.proofs.Held.{held-is}
 
 closed-as : (s : Store) (t : Txn) (ps : List (Option Txn)) → put_txn t.handle (some (closed t)) s.places ≡ ps → with_txn (closed t) s ≡ with_places ps s
 unfolding with_txn closed
@@ -30,10 +29,6 @@ module _ (b : Bytes) (h : sound_state b ≡ true) (z : Shape) (e : z ≡ shape_o
   seat_placed = record { sound = h; shape = e; index = q.index; txn = q.txn; inside = q.inside; start = q.start; here = q.here }
 
   module _ (o : octets b ≡ true) where
-    -- its mark and the number of bytes of its own writes lie in the state
-    pub marks-inside : (place + 24 + 8 ≤ length b) × (place + 32 < 134217728)
-    marks-inside = let L = held-lies b o z place seat_placed in (omega (arith, L.inside, L.wide), omega (arith, L.small, L.wide))
-
     pub seat-held : held_at b place ≡ q.txn
     seat-held = held-is b o z place seat_placed
 

@@ -1,12 +1,13 @@
 -- How a commit enters the history: what stays of it, the room for the new entry, and the bytes that are written; and that in the other mode nothing changes.
 -- Assumes nothing.
-use Prim.Native.Nat.{ℕ, ◌+◌, ◌*◌, ◌-◌, ◌<◌, ◌≤◌}
+use Prim.Native.Nat.{ℕ, ◌+◌, ◌*◌, ◌-◌, ◌/◌, ◌%◌, ◌<◌, ◌≤◌}
 use native.Mathlib.Omega.{arith}
 use mathlib.Core.Path.{◌≡◌, refl, sym, ap, ap₂, ◌∙◌, subst}
 use mathlib.Core.Bool.{Bool, true, false, cond}
 use mathlib.Core.List.{List, [], ◌∷◌, ◌++◌}
 use mathlib.Core.Option.{none, some}
-use lib.ListN.{length}
+use lib.ListN.{length, take, drop, length-drop, take-append-drop}
+use lib.Seq.{length-take-le, take_all}
 use lib.Dec.{leb}
 use borrow.Author.Tests.{le-leb, leb-true}
 use Rattle.paper.specs.Lists.{keep, is_some}
@@ -22,8 +23,10 @@ use Rattle.paper.specs.Calls.{history_after}
 use Rattle.paper.proofs.Bools.{and_intro, and_left, and_right}
 use Rattle.paper.proofs.Alls.{rule}
 use Rattle.paper.proofs.SoundLaws.{rules}
-use Rattle.raw.specs.Bytes.{over}
-use Rattle.raw.proofs.Over.{length_over}
+use Rattle.raw.specs.Bytes.{part, over}
+use Rattle.raw.proofs.Parts.{length_part, part-part, part-take, drop-part}
+use Rattle.raw.proofs.Over.{length_over, over-lent, over-within, over-left}
+use Rattle.raw.proofs.Octets.{octets-part, octets-drop}
 use Rattle.layout.specs.Codec.{many}
 use Rattle.layout.specs.Layout.{store_in, write_store, listed, commit_stream}
 use Rattle.layout.proofs.Streams.{All}
@@ -34,17 +37,18 @@ use Rattle.layout.proofs.SoundFits.{sound-fits, sound-ranged}
 use Rattle.layout.proofs.Inside as inside
 use Rattle.settings.specs.declared.Shape.{Shape}
 use Rattle.settings.proofs.Shapes.{Shaped}
-use Rattle.sets.specs.Sets.{hashes_in}
-use Rattle.txn.specs.Place.{set_count}
+use Rattle.sets.specs.Sets.{set_hashes}
+use Rattle.sets.proofs.Hashes.{set-part}
+use Rattle.txn.specs.Place.{used_at, set_count}
 use Rattle.txn.proofs.Reading.{SetAt, listed-laid}
 use Rattle.mvcc.specs.Histories.{history_read, history_in, history_bytes, limits, CutAt}
 use Rattle.mvcc.proofs.Checked.{fits-limits}
 use Rattle.mvcc.proofs.Pruning.{cut-reads, cut-history}
 use Rattle.mvcc.proofs.Entering.{after-long}
 use Rattle.committing.specs.Held.{Placed, held_at}
-use Rattle.committing.specs.Regions.{history_start, history_end, set_starts}
-use Rattle.committing.proofs.Held.{held-shape, held-lies, held_writes, held-here}
-use Rattle.committing.proofs.Histories.{history-room, history-is}
+use Rattle.committing.specs.Regions.{list_at, set_starts}
+use Rattle.committing.proofs.Held.{Lying, held_shape, held_lies, held_writes, held-here}
+use Rattle.committing.proofs.Histories.{history_room, history-used, history-lies, history-is}
 
 -- ---- commits that fit their fields
 all-kept : (q : Commit → Bool) (cs : List Commit) → All OkCommit cs → All OkCommit (keep q cs)
@@ -75,7 +79,7 @@ module _ (b : Bytes) (o : octets b ≡ true) (z : Shape) (place : ℕ) (p : Plac
   t = held_at b place
 
   S : Shaped (store_in b).settings z
-  S = held-shape b o z place p
+  S = held_shape p
 
   -- ---- the history after the commit, in each mode
   entry : Commit
@@ -129,77 +133,177 @@ module _ (b : Bytes) (o : octets b ≡ true) (z : Shape) (place : ℕ) (p : Plac
     other-same = sym (ap (λ (cs : List Commit). write_store (with_history cs s) b) (mode-after false m) ∙ sound-again b o p.sound)
 
   -- ---- in serializable mode
-  module _ (m : z.serializable ≡ true) (number : ℕ) (n : number ≡ (store_in b).clock + 1) (writes : ℕ) (d : writes ≡ (set_starts z place).writes) (count : ℕ) (c : count ≡ set_count b writes) (end : ℕ) (f : end ≡ history_end b z) (cut : ℕ) (C : CutAt b (history_start z) (history_end b z) (watermark number (store_in b).readers) cut) where
-    -- the write set
-    W : SetAt b writes z.writes t.writes
-    W = subst (λ (x : ℕ). SetAt b x z.writes t.writes) (sym d) (held_writes b o z place p)
+  -- the write set
+  write-set : (writes : ℕ) → writes ≡ (set_starts z place).writes → SetAt b writes z.writes t.writes
+  write-set writes d = subst (λ (x : ℕ). SetAt b x z.writes t.writes) (sym d) (held_writes b o z place p)
 
-    kept-is : history_in b cut end ≡ prune (watermark (s.clock + 1) s.readers) s.history
+  pub writes-lie : (writes : ℕ) → writes ≡ (set_starts z place).writes → writes + 8 + used_at b writes ≤ length b
+  writes-lie writes d =
+      let L = held_lies p in
+      let W = write-set writes d in
+      omega (arith, d, W.used, W.count, L.inside, L.wide)
+
+  module _ (m : z.serializable ≡ true) (number : ℕ) (n : number ≡ (store_in b).clock + 1) (writes : ℕ) (d : writes ≡ (set_starts z place).writes) (cut : ℕ) (C : CutAt (list_at b z.history) (watermark number (store_in b).readers) cut) where
+    W : SetAt b writes z.writes t.writes
+    W = write-set writes d
+
+    writes_are : set_hashes (list_at b writes) ≡ t.writes
+    writes_are = let l = (writes-lie writes d) in set-part b (writes + 8) (used_at b writes) (set_count b writes) (omega (arith, W.used)) (omega arith) ∙ W.set
+
+    -- what stays of the history
+    abbrev stays : Bytes
+    stays = drop cut (list_at b z.history)
+
+    -- as the code lends it
+    pub stays-lent : (E : Bytes) → E ≡ list_at b z.history → part E cut (length E - cut) ≡ stays
+    stays-lent E e = let l = length-drop cut E in take_all (length E - cut) (drop cut E) (omega arith) ∙ ap (drop cut) e
+
+    kept-is : history_in stays ≡ prune (watermark (s.clock + 1) s.readers) s.history
     kept-is =
-        ap (history_in b cut) f ∙ cut-history C
+        cut-history C
         ∙ ap₂ (λ (k : ℕ) (cs : List Commit). prune (watermark k s.readers) cs) n (history-is b o p.sound z p.shape)
 
-    writes_are : hashes_in b (writes + 8) count ≡ t.writes
-    writes_are = ap (hashes_in b (writes + 8)) c ∙ W.set
-
-    count-is : length t.writes ≡ count
-    count-is = omega (arith, c, W.used)
-
-    -- what stays, and the new entry behind it
+    -- and the new entry behind it
     abbrev made : List Commit
-    made = history_in b cut end ++ (make_commit number (hashes_in b (writes + 8) count) ∷ [])
+    made = history_in stays ++ (make_commit number (set_hashes (list_at b writes)) ∷ [])
 
     made-is : made ≡ history_after s t
     unfolding entry
     made-is = ap₂ (λ (cs : List Commit) (e : Commit). cs ++ (e ∷ [])) kept-is (ap₂ make_commit n writes_are) ∙ sym (mode-after true m)
 
-    end-inside : (cut ≤ end) × (end ≤ z.active) × (z.active ≤ length b)
-    end-inside = let R = history-room b o p.sound z p.shape in (omega (arith, f, C.to), omega (arith, f, R.used, R.wide), R.inside)
-
-    stays : is_some (history_read b cut end) ≡ true
-    stays = ap (λ (k : ℕ). is_some (history_read b cut k)) f ∙ cut-reads C
-
-    pub fits-ready : (cut ≤ end) × (end ≤ length b) × (is_some (history_read b cut end) ≡ true)
-    fits-ready = let I = end-inside in (I.0, omega (arith, I), stays)
+    pub stays-reads : is_some (history_read stays) ≡ true
+    stays-reads = cut-reads C
 
     -- 'history after pruning plus the new entry above a limit'
-    pub fits_told : (r : Bool) → ((e : Commit) → length e.hashes ≡ count → r ≡ history_fits (limits z.entries z.hashes) (history_in b cut end ++ (e ∷ [])))
+    pub fits_told : (r : Bool) (E V : Bytes) → E ≡ list_at b z.history → V ≡ list_at b writes
+        → ((e : Commit) → length e.hashes ≡ length V / 4 → r ≡ history_fits (limits z.entries z.hashes) (history_in (part E cut (length E - cut)) ++ (e ∷ [])))
         → r ≡ history_fits (store_in b).settings (history_after (store_in b) (held_at b place))
     unfolding entry
-    fits_told r g =
-        g entry count-is
-        ∙ ap₂ (λ (k l : ℕ). history_fits (limits k l) (history_in b cut end ++ (entry ∷ []))) S.entries S.hashes
-        ∙ sym (fits-limits st (history_in b cut end ++ (entry ∷ [])))
+    fits_told r E V e v g =
+        let n : length V ≡ used_at b writes = ap length v ∙ length_part b (writes + 8) (used_at b writes) (writes-lie writes d) in
+        g entry (omega (arith, W.used))
+        ∙ ap (λ (t : Bytes). history_fits (limits z.entries z.hashes) (history_in t ++ (entry ∷ []))) (stays-lent E e)
+        ∙ ap₂ (λ (k l : ℕ). history_fits (limits k l) (history_in stays ++ (entry ∷ []))) S.entries S.hashes
+        ∙ sym (fits-limits st (history_in stays ++ (entry ∷ [])))
         ∙ ap (λ (cs : List Commit). history_fits st (cs ++ (entry ∷ []))) kept-is
         ∙ sym (ap (history_fits st) (mode-after true m))
 
     module _ (k : history_fits (store_in b).settings (history_after (store_in b) (held_at b place)) ≡ true) where
       -- the bytes of the history after the commit are within its room
-      made-long : length (history_bytes made) ≤ 16 * z.entries + 4 * z.hashes
+      pub made-long : length (history_bytes made) ≤ 16 * z.entries + 4 * z.hashes
       made-long =
           let q : length (history_bytes made) ≡ 16 * length (history_after s t) + 4 * hash_count (history_after s t) = ap (λ (cs : List Commit). length (history_bytes cs)) made-is ∙ history-form (history_after s t) in
           omega (arith, q, few k, S.entries, S.hashes)
 
-      pub enter-ready : (history_start z ≤ cut) × (cut ≤ end) × (end ≤ length b) × (history_start z + (end - cut) + 16 + 4 * count ≤ writes + 8) × (writes + 8 + 4 * count ≤ length b) × (is_some (history_read b cut end) ≡ true)
-      enter-ready =
-          let L = held-lies b o z place p in
-          let I = end-inside in
-          let from : ℕ = writes + 8 in
-          let w : from + 4 * count ≤ length b = omega (arith, d, count-is, W.count, L.inside, L.wide) in
-          let l : length (history_bytes made) ≡ (end - cut) + 16 + 4 * count = after-long b o cut end I.0 (omega (arith, I)) stays number from count w in
-          (C.from, I.0, omega (arith, I), omega (arith, d, l, made-long, L.history, L.active, L.area, L.places), w, stays)
+      -- the number of the bytes in front of what was written
+      pub entered : number < 18446744073709551616 → (next : ℕ) → next ≡ length (history_bytes made)
+          → over (over b (z.history + 8) (history_bytes made)) z.history (big_endian 8 next) ≡ write_store (with_history (history_after (store_in b) (held_at b place)) (store_in b)) b
+      entered u next g =
+          let R = history_room b z p.sound p.shape in
+          listed-laid (many commit_stream) made b z.history next (omega (arith, R.wide, R.inside)) g
+          ∙ ap₂ (λ (at : ℕ) (cs : List Commit). over b at ((listed commit_stream).put cs)) S.history made-is
+          ∙ sym (inside.change-history b s o (sound-read b p.sound) (history_after s t) (after-ok k (omega (arith, n, u))))
 
-      module _ (a : Bytes) (e : a ≡ over b (history_start z) (history_bytes (history_in b cut end ++ (make_commit number (hashes_in b (writes + 8) count) ∷ [])))) where
-        pub entered-long : length a ≡ length b
-        entered-long = let R = history-room b o p.sound z p.shape in ap length e ∙ length_over b (history_start z) (history_bytes made) (omega (arith, made-long, R.wide, R.inside))
+      -- the bytes as the code lends them: the history E and the write set V, the state up to the hashes of the write set and from there on, and the room for the history in the former
+      module _ (E V F K : Bytes) (e : E ≡ list_at b z.history) (v : V ≡ list_at b writes) (f : F ≡ take (writes + 8) b) (k₂ : K ≡ drop (writes + 8) b) where
+        abbrev pub lent : Bytes
+        lent = part F (z.history + 8) (length F - (z.history + 8))
 
-        -- the number of the bytes in front of what was written
-        pub entered : number < 18446744073709551616 → (next : ℕ) → next ≡ history_start z + length (history_bytes (history_in b cut end ++ (make_commit number (hashes_in b (writes + 8) count) ∷ [])))
-            → over a z.history (big_endian 8 (next - history_start z)) ≡ write_store (with_history (history_after (store_in b) (held_at b place)) (store_in b)) b
-        entered u next g =
-            let R = history-room b o p.sound z p.shape in
-            let q : next - history_start z ≡ length (history_bytes made) = omega (arith, g) in
-            ap (λ (x : Bytes). over x z.history (big_endian 8 (next - history_start z))) e
-            ∙ listed-laid (many commit_stream) made b z.history (next - history_start z) (omega (arith, R.wide, R.inside)) q
-            ∙ ap₂ (λ (at : ℕ) (cs : List Commit). over b at ((listed commit_stream).put cs)) S.history made-is
-            ∙ sym (inside.change-history b s o (sound-read b p.sound) (history_after s t) (after-ok k (omega (arith, n, u))))
+        abbrev pub hashes : Bytes
+        hashes = take (length V) K
+
+        lies : Lying b z place
+        lies = held_lies p
+
+        -- how long each is
+        longs : (length E ≡ used_at b z.history) × (length V ≡ used_at b writes) × (length F ≡ writes + 8)
+        longs =
+            let L = lies in (
+              ap length e ∙ length_part b (z.history + 8) (used_at b z.history) (history-lies b o p.sound z p.shape),
+              ap length v ∙ length_part b (writes + 8) (used_at b writes) (writes-lie writes d),
+              ap length f ∙ length-take-le (writes + 8) b (let w = (writes-lie writes d) in omega arith),
+            )
+
+        -- the history's room ends before the write set
+        apart : z.history + 8 + (16 * z.entries + 4 * z.hashes) ≤ writes
+        apart = let L = lies in omega (arith, d, L.history, L.active, L.area, L.places)
+
+        pub lent-long : length lent ≡ writes + 8 - (z.history + 8)
+        lent-long = let a = apart in let n = longs in length_part F (z.history + 8) (length F - (z.history + 8)) (omega arith) ∙ omega arith
+
+        pub lent-hashes : hashes ≡ list_at b writes
+        lent-hashes = let n = longs in ap (take (length V)) k₂ ∙ ap (λ (i : ℕ). take i (drop (writes + 8) b)) n.1
+
+        pub lent-stays : part lent cut (length E - cut) ≡ stays
+        lent-stays =
+            let a = apart in
+            let n = longs in
+            let u = history-used b o p.sound z p.shape in
+            let c = C.to in
+            let q : cut ≤ used_at b z.history = omega (arith, length_part b (z.history + 8) (used_at b z.history) (history-lies b o p.sound z p.shape)) in
+            let i : length E - cut ≡ used_at b z.history - cut = omega arith in
+            part-part F (z.history + 8) (length F - (z.history + 8)) cut (length E - cut) (omega arith)
+            ∙ ap (λ (t : Bytes). part t (z.history + 8 + cut) (length E - cut)) f
+            ∙ part-take b (writes + 8) (z.history + 8 + cut) (length E - cut) (omega arith)
+            ∙ ap (part b (z.history + 8 + cut)) i
+            ∙ sym (drop-part b (z.history + 8) (used_at b z.history) cut)
+
+        -- the bytes of the history after the commit
+        after-size : length (history_bytes made) ≡ length stays + 16 + length (list_at b writes)
+        after-size =
+            let n = length_part b (writes + 8) (used_at b writes) (writes-lie writes d) in
+            after-long stays (octets-drop cut (list_at b z.history) (octets-part b (z.history + 8) (used_at b z.history) o)) stays-reads number (list_at b writes)
+            (octets-part b (writes + 8) (used_at b writes) o) (omega (arith, n, W.used))
+
+        pub enter-ready : (cut ≤ length E) × (length E ≤ length lent) × (length E - cut + 16 + length hashes ≤ length lent) × (length hashes % 4 ≡ 0) × (is_some (history_read (part lent cut (length E - cut))) ≡ true)
+        enter-ready =
+            let a = apart in
+            let n = longs in
+            let u = history-used b o p.sound z p.shape in
+            let l = lent-long in
+            let c = C.to in
+            let q = length_part b (z.history + 8) (used_at b z.history) (history-lies b o p.sound z p.shape) in
+            let w = length_part b (writes + 8) (used_at b writes) (writes-lie writes d) in
+            let h : length hashes ≡ length (list_at b writes) = ap length lent-hashes in
+            let g : length stays ≡ length (list_at b z.history) - cut = length-drop cut (list_at b z.history) in (
+              omega arith,
+              omega arith,
+              omega (arith, after-size, made-long),
+              omega (arith, W.used),
+              ap (λ (t : Bytes). is_some (history_read t)) lent-stays ∙ stays-reads,
+            )
+
+        made-there : history_in (part lent cut (length E - cut)) ++ (make_commit number (set_hashes hashes) ∷ []) ≡ made
+        made-there = ap₂ (λ (t u : Bytes). history_in t ++ (make_commit number (set_hashes u) ∷ [])) lent-stays lent-hashes
+
+        pub next-is : (next : ℕ) → next ≡ length (history_bytes (history_in (part lent cut (length E - cut)) ++ (make_commit number (set_hashes hashes) ∷ []))) → next ≡ length (history_bytes made)
+        next-is next g = g ∙ ap (λ (cs : List Commit). length (history_bytes cs)) made-there
+
+        -- what was written in the room is written in the state
+        module _ (room : Bytes) (r : room ≡ over lent 0 (history_bytes (history_in (part lent cut (length E - cut)) ++ (make_commit number (set_hashes hashes) ∷ [])))) where
+          room-is : room ≡ over lent 0 (history_bytes made)
+          room-is = r ∙ ap (λ (cs : List Commit). over lent 0 (history_bytes cs)) made-there
+
+          pub written : take (z.history + 8) F ++ (room ++ drop (length F - (z.history + 8)) (drop (z.history + 8) F)) ++ K ≡ over b (z.history + 8) (history_bytes made)
+          written =
+              let a = apart in
+              let n = longs in
+              let l = lent-long in
+              let m₂ = made-long in
+              let rl : length room ≡ length F - (z.history + 8) = ap length room-is ∙ length_over lent 0 (history_bytes made) (omega arith) ∙ omega arith in
+              let i : z.history + 8 + 0 ≡ z.history + 8 = omega arith in
+              let x : Bytes = history_bytes made in
+              ap (λ (t : Bytes). t ++ K)
+              (over-lent F room (z.history + 8) (length F - (z.history + 8)) rl
+              ∙ ap (over F (z.history + 8)) room-is
+              ∙ over-within F (z.history + 8) (length F - (z.history + 8)) 0 x (omega arith) (omega arith)
+              ∙ ap (λ (j : ℕ). over F j x) i)
+              ∙ sym (over-left F K (z.history + 8) x (omega arith))
+              ∙ ap (λ (t : Bytes). over t (z.history + 8) x) (ap₂ (λ (t u : Bytes). t ++ u) f k₂ ∙ take-append-drop (writes + 8) b)
+
+          pub written-long : length (take (z.history + 8) F ++ (room ++ drop (length F - (z.history + 8)) (drop (z.history + 8) F)) ++ K) ≡ length b
+          written-long =
+              let a = apart in
+              let w = writes-lie writes d in
+              let l = made-long in
+              ap length written ∙ length_over b (z.history + 8) (history_bytes made) (omega arith)

@@ -28,8 +28,7 @@ use Rattle.layout.proofs.Sides.{Has}
 use Rattle.layout.proofs.Changes.{place_end}
 use Rattle.layout.proofs.Inside as inside
 use Rattle.settings.specs.declared.Shape.{Shape}
-use Rattle.settings.proofs.Shapes.{Shaped}
-use Rattle.seat.proofs.Finding.{shape-fits}
+use Rattle.settings.proofs.Shapes.{Shaped, shaped}
 use Rattle.overlay.specs.Overlay.{own_in, overlay_in, pairs_in, is_overlay}
 use Rattle.overlay.proofs.Pairs.{overlay-of, overlay-packed, length-own}
 use Rattle.txn.specs.Place.{used_at}
@@ -78,6 +77,25 @@ pub record Lying (b : Bytes) (z : Shape) (place : ℕ) : Type 0 where
   pub inside : place + z.stride ≤ length b
   pub small : place + z.stride < 134217728
 
+-- a place that is a transaction's lies where its shape puts it
+pub held_shape : {b : Bytes} {z : Shape} {place : ℕ} → Placed b z place → Shaped (store_in b).settings z
+held_shape {b} {z} p = shaped (store_in b).settings (rules (store_in b) (sound-in b p.sound)).ranges z p.shape
+
+pub held_lies : {b : Bytes} {z : Shape} {place : ℕ} → Placed b z place → Lying b z place
+held_lies {b} p =
+    let S = held_shape p in
+    let e = place_end (store_in b).settings p.index p.inside in
+    record {
+      rows = omega (arith, S.rows-wide, S.count);
+      history = omega (arith, S.history-wide, S.entries, S.hashes);
+      active = omega (arith, S.active-wide);
+      area = omega (arith, S.area-wide);
+      places = omega (arith, S.places, p.start);
+      wide = omega (arith, S.place-wide, S.own, S.reads, S.writes);
+      inside = omega (arith, S.stride, p.start, e, sound-enough b p.sound);
+      small = omega (arith, S.stride, p.start, e, S.small);
+    }
+
 module _ (b : Bytes) (o : octets b ≡ true) (z : Shape) (place : ℕ) (p : Placed b z place) where
   abbrev s : Store
   s = store_in b
@@ -93,24 +111,6 @@ module _ (b : Bytes) (o : octets b ≡ true) (z : Shape) (place : ℕ) (p : Plac
 
   reads_as : read_store b ≡ some s
   reads_as = sound-read b p.sound
-
-  pub held-shape : Shaped (store_in b).settings z
-  held-shape = shape-fits b o p.sound z p.shape
-
-  pub held-lies : Lying b z place
-  held-lies =
-      let S = held-shape in
-      let e = place_end st i p.inside in
-      record {
-        rows = omega (arith, S.rows-wide, S.count);
-        history = omega (arith, S.history-wide, S.entries, S.hashes);
-        active = omega (arith, S.active-wide);
-        area = omega (arith, S.area-wide);
-        places = omega (arith, S.places, p.start);
-        wide = omega (arith, S.place-wide, S.own, S.reads, S.writes);
-        inside = omega (arith, S.stride, p.start, e, sound-enough b p.sound);
-        small = omega (arith, S.stride, p.start, e, S.small);
-      }
 
   -- 'overlays strictly rising ..; sets without repeats ..': its transaction keeps the rules of one
   pub held-rules : sound_txn (store_in b).settings (store_in b).counter (store_in b).clock p.txn ≡ true
@@ -152,14 +152,14 @@ module _ (b : Bytes) (o : octets b ≡ true) (z : Shape) (place : ℕ) (p : Plac
 
   own_read : (used_at b (place + 24) ≤ st.overlay_bytes) × ((many pair_stream).parse (part b (place + 24 + 8) (used_at b (place + 24))) ≡ some t.own)
   own_read =
-      let L = held-lies in
-      let S = held-shape in
+      let L = held_lies p in
+      let S = held_shape p in
       let h : (room (8 + st.overlay_bytes) (sized 8 (many pair_stream))).read (part b (place + 24) (8 + st.overlay_bytes)) ≡ some t.own =
       ap (λ (n : ℕ). (room (8 + st.overlay_bytes) (sized 8 (many pair_stream))).read (part b (n + 24) (8 + st.overlay_bytes))) p.start ∙ (inside.own_at b s o reads_as i p.inside t p.here).read in
       room-holds (many pair_stream) b (place + 24) st.overlay_bytes (omega (arith, L.inside, L.wide, S.own)) t.own h
 
   pub held-own-used : used_at b (place + 24) ≤ z.own
-  held-own-used = omega (arith, own_read.0, held-shape.own)
+  held-own-used = omega (arith, own_read.0, (held_shape p).own)
 
   own-span : part b (place + 32) (place + 32 + used_at b (place + 24) - (place + 32)) ≡ part b (place + 24 + 8) (used_at b (place + 24))
   own-span =
@@ -180,7 +180,7 @@ module _ (b : Bytes) (o : octets b ≡ true) (z : Shape) (place : ℕ) (p : Plac
   -- '4 bytes plus key and value for each entry'
   pub held-own-size : used_at b (place + 24) ≡ own_size (held_at b place).own
   held-own-size =
-      let L = held-lies in
+      let L = held_lies p in
       let u = held-own-used in
       let q : Bytes = part b (place + 32) (place + 32 + used_at b (place + 24) - (place + 32)) in
       let e : place + 32 + used_at b (place + 24) - (place + 32) ≡ used_at b (place + 24) = omega arith in
@@ -198,8 +198,8 @@ module _ (b : Bytes) (o : octets b ≡ true) (z : Shape) (place : ℕ) (p : Plac
   -- ---- its sets: the number of their bytes, and the hashes behind it
   pub held_reads : SetAt b (place + 32 + z.own) z.reads (held_at b place).reads
   held_reads =
-      let L = held-lies in
-      let S = held-shape in
+      let L = held_lies p in
+      let S = held_shape p in
       let e : place_at st i + place_reads st ≡ place + 32 + z.own = omega (arith, p.start, S.own) in
       let r : (room (8 + 4 * z.reads) hashes_stream).read (part b (place + 32 + z.own) (8 + 4 * z.reads)) ≡ some (held_at b place).reads =
       ap₂ (λ (n m : ℕ). (room (8 + 4 * m) hashes_stream).read (part b n (8 + 4 * m))) (sym e) S.reads ∙ (inside.reads_at b s o reads_as i p.inside t p.here).read ∙ ap (λ (u : Txn). some u.reads) (sym held-is) in
@@ -207,8 +207,8 @@ module _ (b : Bytes) (o : octets b ≡ true) (z : Shape) (place : ℕ) (p : Plac
 
   pub held_writes : SetAt b (place + 32 + z.own + 8 + 4 * z.reads) z.writes (held_at b place).writes
   held_writes =
-      let L = held-lies in
-      let S = held-shape in
+      let L = held_lies p in
+      let S = held_shape p in
       let at : ℕ = place + 32 + z.own + 8 + 4 * z.reads in
       let e : place_at st i + place_writes st ≡ at = omega (arith, p.start, S.own, S.reads) in
       let r : (room (8 + 4 * z.writes) hashes_stream).read (part b at (8 + 4 * z.writes)) ≡ some (held_at b place).writes =

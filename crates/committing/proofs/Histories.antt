@@ -5,13 +5,13 @@ use native.Mathlib.Omega.{arith}
 use mathlib.Core.Path.{◌≡◌, sym, ap, ap₂, ◌∙◌, subst}
 use mathlib.Core.Bool.{true, cond}
 use mathlib.Core.List.{List}
-use mathlib.Core.Option.{some}
+use mathlib.Core.Option.{Option, some}
 use lib.ListN.{length}
 use Rattle.paper.specs.Lists.{is_some, rises, hold_all}
 use Rattle.paper.specs.Keys.{Bytes, octets}
 use Rattle.paper.specs.Image.{number_from}
 use Rattle.paper.specs.Readers.{watermark}
-use Rattle.paper.specs.History.{Commit, opponent}
+use Rattle.paper.specs.History.{Commit, Opponent, opponent}
 use Rattle.paper.specs.Settings.{Settings}
 use Rattle.paper.specs.Store.{Store}
 use Rattle.paper.proofs.SoundLaws.{rules}
@@ -23,28 +23,39 @@ use Rattle.layout.proofs.SoundState.{sound-read, sound-enough, sound-in}
 use Rattle.layout.proofs.Inside as inside
 use Rattle.settings.specs.Shapes.{shape_of}
 use Rattle.settings.specs.declared.Shape.{Shape}
-use Rattle.settings.proofs.Shapes.{Shaped}
-use Rattle.seat.proofs.Finding.{shape-fits}
+use Rattle.settings.proofs.Shapes.{Shaped, shaped}
 use Rattle.table.specs.Rows.{read_in, rows_in}
 use Rattle.table.proofs.RowsLie.{part-reads, part-rows}
-use Rattle.sets.specs.Sets.{hashes_in}
+use Rattle.sets.specs.Sets.{set_hashes}
+use Rattle.sets.proofs.Hashes.{set-part}
 use Rattle.txn.specs.Place.{used_at, set_count}
 use Rattle.txn.proofs.Reading.{room-holds, SetAt}
-use Rattle.mvcc.specs.Histories.{history_read, or_empty, history_in, is_history, sound_read, opponent_of, CutAt}
-use Rattle.mvcc.specs.declared.Opposed.{Opposed}
+use Rattle.mvcc.specs.Histories.{history_read, or_empty, history_in, is_history, sound_read}
 use Rattle.mvcc.proofs.Checked.{rules-limits, checked-order}
 use Rattle.committing.specs.declared.history.SetStarts.{SetStarts}
 use Rattle.committing.specs.Held.{Placed, held_at}
-use Rattle.committing.specs.Regions.{history_start, history_end, set_starts}
-use Rattle.committing.proofs.Held.{held-read, held_reads, held-reads-set, held-lies, set-rises}
+use Rattle.committing.specs.Regions.{list_at, set_starts}
+use Rattle.committing.proofs.Held.{held-read, held_reads, held-reads-set, held_lies, set-rises}
 
--- where the rows end and the history lies: it takes at most its room, in the first 128 MiB of the state
+-- where the rows end and the history lies: in the first 128 MiB of the state
 pub record Room (b : Bytes) (z : Shape) : Type 0 where
   pub rows : 88 ≤ z.history
-  pub used : used_at b z.history ≤ 16 * z.entries + 4 * z.hashes
   pub wide : z.history + (8 + 16 * z.entries + 4 * z.hashes) ≡ z.active
   pub inside : z.active ≤ length b
   pub small : z.active < 134217728
+
+shape_there : (b : Bytes) (z : Shape) → sound_state b ≡ true → z ≡ shape_of (store_in b).settings → Shaped (store_in b).settings z
+shape_there b z h e = shaped (store_in b).settings (rules (store_in b) (sound-in b h)).ranges z e
+
+pub history_room : (b : Bytes) (z : Shape) → sound_state b ≡ true → z ≡ shape_of (store_in b).settings → Room b z
+history_room b z h e =
+    let S = shape_there b z h e in
+    record {
+      rows = omega (arith, S.rows-wide);
+      wide = omega (arith, S.history-wide, S.entries, S.hashes);
+      inside = omega (arith, S.active-wide, S.area-wide, S.places-wide, sound-enough b h);
+      small = omega (arith, S.active-wide, S.area-wide, S.places-wide, S.small);
+    }
 
 module _ (b : Bytes) (o : octets b ≡ true) (h : sound_state b ≡ true) (z : Shape) (e : z ≡ shape_of (store_in b).settings) where
   abbrev s : Store
@@ -54,7 +65,7 @@ module _ (b : Bytes) (o : octets b ≡ true) (h : sound_state b ≡ true) (z : S
   st = (store_in b).settings
 
   shape : Shaped (store_in b).settings z
-  shape = shape-fits b o h z e
+  shape = shape_there b z h e
 
   -- ---- the history
   held : (used_at b z.history ≤ 16 * z.entries + 4 * z.hashes) × ((many commit_stream).parse (part b (z.history + 8) (used_at b z.history)) ≡ some s.history)
@@ -67,32 +78,27 @@ module _ (b : Bytes) (o : octets b ≡ true) (h : sound_state b ≡ true) (z : S
       ap₂ (λ (at n : ℕ). (room n (sized 8 (many commit_stream))).read (part b at n)) S.history w ∙ (inside.lies b s o (sound-read b h)).history.read in
       room-holds (many commit_stream) b z.history m (omega (arith, S.history-wide, S.active-wide, S.area-wide, S.places-wide, sound-enough b h, w)) s.history r
 
-  pub history-room : Room b z
-  history-room =
-      let S = shape in
-      record {
-        rows = omega (arith, S.rows-wide);
-        used = held.0;
-        wide = omega (arith, S.history-wide, S.entries, S.hashes);
-        inside = omega (arith, S.active-wide, S.area-wide, S.places-wide, sound-enough b h);
-        small = omega (arith, S.active-wide, S.area-wide, S.places-wide, S.small);
-      }
+  -- it takes at most its room
+  pub history-used : used_at b z.history ≤ 16 * z.entries + 4 * z.hashes
+  history-used = held.0
+
+  -- they lie in the state
+  pub history-lies : z.history + 8 + used_at b z.history ≤ length b
+  history-lies = let R = history_room b z h e in omega (arith, history-used, R.wide, R.inside)
 
   -- the entries behind the number of their bytes are the store's history
-  pub history-reads : history_read b (history_start z) (history_end b z) ≡ some (store_in b).history
-  history-reads =
-      let n : history_end b z - history_start z ≡ used_at b z.history = omega arith in
-      ap (λ (k : ℕ). (many commit_stream).parse (part b (history_start z) k)) n ∙ held.1
+  pub history-reads : history_read (list_at b z.history) ≡ some (store_in b).history
+  history-reads = held.1
 
-  pub history-is : history_in b (history_start z) (history_end b z) ≡ (store_in b).history
+  pub history-is : history_in (list_at b z.history) ≡ (store_in b).history
   unfolding history_in
   history-is = ap or_empty history-reads
 
   -- they are in order
-  pub history-ordered : is_history b (history_start z) (history_end b z) ≡ true
+  pub history-ordered : is_history (list_at b z.history) ≡ true
   history-ordered =
       let entries : ℕ = cond st.serializable st.history_entries 0 in
-      checked-order b (history_start z) (history_end b z) entries st.history_hashes s.clock
+      checked-order (list_at b z.history) entries st.history_hashes s.clock
       (ap (sound_read entries st.history_hashes s.clock) history-reads
       ∙ sym (ap hold_all (rules-limits st s.clock s.history))
       ∙ (rules s (sound-in b h)).history)
@@ -109,19 +115,16 @@ module _ (b : Bytes) (o : octets b ≡ true) (h : sound_state b ≡ true) (z : S
   watermark-is r clock q =
       q ∙ ap (λ (u : Bytes). watermark clock (rows_in u)) rows-lent ∙ ap (watermark clock) (part-rows st (rows_part st b) s.readers (inside.lies b s o (sound-read b h)).readers)
 
-  -- ---- what leaves
-  module _ (end : ℕ) (f : end ≡ history_end b z) where
-    pub cut-ready : (history_start z ≤ end) × (end ≤ length b) × (is_history b (history_start z) end ≡ true)
-    cut-ready =
-        let R = history-room in
-        (omega (arith, f), omega (arith, f, R.used, R.wide, R.inside), ap (is_history b (history_start z)) f ∙ history-ordered)
-
-    pub cut-told : (low clock cut : ℕ) → low ≡ watermark clock (store_in b).readers → CutAt b (history_start z) end low cut → CutAt b (history_start z) (history_end b z) (watermark clock (store_in b).readers) cut
-    cut-told low clock cut g C = subst (λ (n : ℕ). CutAt b (history_start z) n (watermark clock s.readers) cut) f (subst (λ (w : ℕ). CutAt b (history_start z) end w cut) g C)
-
 -- ---- where the sets of a place begin
 pub starts-are : (z : Shape) (place : ℕ) (r : SetStarts) → r ≡ set_starts z place → (r.reads ≡ (set_starts z place).reads) × (r.writes ≡ (set_starts z place).writes)
 starts-are z place r e = (ap (λ (x : SetStarts). x.reads) e, ap (λ (x : SetStarts). x.writes) e)
+
+-- they lie in the state
+pub sets-inside : (b : Bytes) (z : Shape) (place : ℕ) (r : SetStarts) → Placed b z place → r ≡ set_starts z place → (r.writes + 8 ≤ length b) × (r.writes + 8 < 134217728) × (z.active ≤ r.writes)
+sets-inside b z place r p e =
+    let L = held_lies p in
+    let q = starts-are z place r e in
+    (omega (arith, q, L.wide, L.inside), omega (arith, q, L.wide, L.small), omega (arith, q, L.active, L.area, L.places))
 
 -- ---- who is in the way of the transaction at a place
 module _ (b : Bytes) (o : octets b ≡ true) (z : Shape) (place : ℕ) (p : Placed b z place) (reads : ℕ) (d : reads ≡ (set_starts z place).reads) where
@@ -129,25 +132,19 @@ module _ (b : Bytes) (o : octets b ≡ true) (z : Shape) (place : ℕ) (p : Plac
   R : SetAt b reads z.reads (held_at b place).reads
   R = subst (λ (x : ℕ). SetAt b x z.reads (held_at b place).reads) (sym d) (held_reads b o z place p)
 
-  module _ (count end : ℕ) (c : count ≡ set_count b reads) (f : end ≡ history_end b z) where
-    hashes-are : hashes_in b (reads + 8) count ≡ (held_at b place).reads
-    hashes-are = ap (hashes_in b (reads + 8)) c ∙ R.set
+  pub reads-lie : reads + 8 + used_at b reads ≤ length b
+  reads-lie = let L = held_lies p in omega (arith, d, R.used, R.count, L.inside, L.wide)
 
-    pub opposed-ready : (history_start z ≤ end) × (end ≤ length b) × (reads + 8 + 4 * count ≤ length b) × (is_history b (history_start z) end ≡ true) × (rises compare (hashes_in b (reads + 8) count) ≡ true)
-    opposed-ready =
-        let L = held-lies b o z place p in
-        let C = cut-ready b o p.sound z p.shape end f in (
-          C.0,
-          C.1,
-          omega (arith, d, c, R.used, R.count, L.inside, L.wide),
-          C.2,
-          ap (rises compare) hashes-are ∙ set-rises (held_at b place).reads (held-reads-set b o z place p),
-        )
+  reads-are : set_hashes (list_at b reads) ≡ (held_at b place).reads
+  reads-are = let m = reads-lie in set-part b (reads + 8) (used_at b reads) (set_count b reads) (omega (arith, R.used)) (omega arith) ∙ R.set
 
-    pub opposed-told : (read : ℕ) (r : Opposed) → read ≡ number_from 0 (part b (place + 8) 8)
-        → opponent_of r ≡ opponent read (hashes_in b (reads + 8) count) (history_in b (history_start z) end)
-        → opponent_of r ≡ opponent (held_at b place).read (held_at b place).reads (store_in b).history
-    opposed-told read r g k =
-        k
-        ∙ ap (λ (n : ℕ). opponent n (hashes_in b (reads + 8) count) (history_in b (history_start z) end)) (g ∙ held-read b o z place p)
-        ∙ ap₂ (λ (hs : List ℕ) (cs : List Commit). opponent (held_at b place).read hs cs) hashes-are (ap (history_in b (history_start z)) f ∙ history-is b o p.sound z p.shape)
+  pub reads-rise : rises compare (set_hashes (list_at b reads)) ≡ true
+  reads-rise = ap (rises compare) reads-are ∙ set-rises (held_at b place).reads (held-reads-set b o z place p)
+
+  pub opposed-told : (read : ℕ) (r : Option Opponent) → read ≡ number_from 0 (part b (place + 8) 8)
+      → r ≡ opponent read (set_hashes (list_at b reads)) (history_in (list_at b z.history))
+      → r ≡ opponent (held_at b place).read (held_at b place).reads (store_in b).history
+  opposed-told read r g k =
+      k
+      ∙ ap (λ (n : ℕ). opponent n (set_hashes (list_at b reads)) (history_in (list_at b z.history))) (g ∙ held-read b o z place p)
+      ∙ ap₂ (λ (hs : List ℕ) (cs : List Commit). opponent (held_at b place).read hs cs) reads-are (history-is b o p.sound z p.shape)

@@ -39,7 +39,7 @@ use Rattle.versions.proofs.Moving.{absorbable-same, absorbed-same}
 use Rattle.versions.proofs.Callers.{absorbable-there, absorbed-after}
 use Rattle.committing.specs.Held.{Placed, held_at}
 use Rattle.committing.specs.Storing.{end_at, Ready, run_with}
-use Rattle.committing.proofs.Held.{held-shape, held-lies, held-rules, held-is, held-own-used, held-own-size}
+use Rattle.committing.proofs.Held.{held_shape, held_lies, held-rules, held-is, held-own-used, held-own-size}
 
 -- ---- in a sound state
 module _ (b : Bytes) (o : octets b ≡ true) (z : Shape) (place : ℕ) (p : Placed b z place) where
@@ -62,30 +62,30 @@ module _ (b : Bytes) (o : octets b ≡ true) (z : Shape) (place : ℕ) (p : Plac
   run-read : (number_from 0 (part b z.active 8) ≤ st.active_bytes) × ((many version_stream).parse (part b (z.active + 8) (number_from 0 (part b z.active 8))) ≡ some s.active)
   unfolding active_slot
   run-read =
-      let S = held-shape b o z place p in
-      let L = held-lies b o z place p in
+      let S = held_shape p in
+      let L = held_lies p in
       room-holds (many version_stream) b z.active st.active_bytes (omega (arith, S.active-wide, L.area, L.places, L.inside)) s.active
       (ap (λ (at : ℕ). (room (8 + st.active_bytes) (sized 8 (many version_stream))).read (part b at (8 + st.active_bytes))) S.active ∙ (inside.lies b s o there).active.read)
 
   -- the active run ends in its room
   pub run_ends : end_at b z.active ≤ z.area
-  run_ends = let S = held-shape b o z place p in omega (arith, run-read.0, S.active-wide)
+  run_ends = let S = held_shape p in omega (arith, run-read.0, S.active-wide)
 
   -- and the own writes in theirs
   pub own-ends : end_at b (place + 24) ≤ length b
-  own-ends = let L = held-lies b o z place p in omega (arith, held-own-used b o z place p, L.inside, L.wide)
+  own-ends = let L = held_lies p in omega (arith, held-own-used b o z place p, L.inside, L.wide)
 
   -- '12 bytes plus key and value for each version'
   run-used : number_from 0 (part b z.active 8) ≡ run_size s.active
   run-used =
-      let L = held-lies b o z place p in
+      let L = held_lies p in
       let n : ℕ = number_from 0 (part b z.active 8) in
       let x : Bytes = part b (z.active + 8) n in
       let f : x ≡ (many version_stream).form s.active = (subst (Formed (many version_stream).form (All OkVersion) x) run-read.1 ((many-laws version-laws).again x (octets-part b (z.active + 8) n o))).0 in
       sym (length_part b (z.active + 8) n (omega (arith, run_ends, L.area, L.places, L.inside))) ∙ ap length f ∙ run-form s.active
 
   run-span : span b (z.active + 8) (end_at b z.active) ≡ span b (start_active st + 8) (start_active st + 8 + run_size s.active)
-  run-span = let S = held-shape b o z place p in ap₂ (λ (at n : ℕ). span b (at + 8) (at + 8 + n)) S.active run-used
+  run-span = let S = held_shape p in ap₂ (λ (at n : ℕ). span b (at + 8) (at + 8 + n)) S.active run-used
 
   own-span : span b (place + 32) (end_at b (place + 24)) ≡ span b (place_at st i + 24 + 8) (place_at st i + 24 + 8 + own_size t.own)
   own-span =
@@ -100,7 +100,7 @@ module _ (b : Bytes) (o : octets b ≡ true) (z : Shape) (place : ℕ) (p : Plac
   module _ (n : ℕ) (e : n ≡ (store_in b).clock + 1) where
     pub ready : Ready b z place n
     ready =
-        let L = held-lies b o z place p in
+        let L = held_lies p in
         let h = absorbable-there b s o there run_sound i p.inside t p.here (held-rules b o z place p) in
         record {
           order = omega arith;
@@ -130,7 +130,7 @@ module _ (b : Bytes) (o : octets b ≡ true) (z : Shape) (place : ℕ) (p : Plac
       -- 'active run (12 bytes plus key and value for each version) .. too small'
       pub fits_told : (r : Bool) → r ≡ leb (run_size (absorbed b (z.active + 8) end (place + 32) stop n)) (z.area - (z.active + 8)) → r ≡ active_fits (store_in b).settings (active_after (store_in b) (held_at b place))
       fits_told r h =
-          let S = held-shape b o z place p in
+          let S = held_shape p in
           let w : z.area - (z.active + 8) ≡ s.settings.active_bytes = omega (arith, S.active-wide) in
           h ∙ ap₂ (λ (a : Run) (m : ℕ). leb (run_size a) m) (ap₂ (λ (i j : ℕ). absorbed b (z.active + 8) i (place + 32) j n) f g ∙ joined) w
 

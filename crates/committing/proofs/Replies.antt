@@ -5,35 +5,35 @@ use native.Mathlib.Omega.{arith}
 use mathlib.Core.Path.{◌≡◌, refl, sym, ap, ◌∙◌}
 use mathlib.Core.Bool.{true, false}
 use mathlib.Core.Option.{Option, none, some}
-use lib.ListN.{length}
 use borrow.Author.Tests.{leb-true}
 use Rattle.paper.specs.Lists.{is_empty}
 use Rattle.paper.specs.Keys.{Bytes, octets}
 use Rattle.paper.specs.Image.{big_endian, number_from}
 use Rattle.paper.specs.History.{Opponent, opponent}
-use Rattle.paper.specs.Refusals.{Refusal, no_handle, is_closed, no_room, counter_full, history, active_run, conflicts, Try, stop, go}
+use Rattle.paper.specs.Refusals.{Refusal, no_room, counter_full, history, active_run, conflicts, Try, stop, go}
 use Rattle.paper.specs.Room.{history_fits, active_fits}
 use Rattle.paper.specs.Settings.{most_number}
-use Rattle.paper.specs.Store.{Txn, Store, find_txn, closed, with_txn}
-use Rattle.paper.specs.Calls.{committed, refused, Outcome, history_after, active_after, stored, try_store, judged, try_commit, Call, tried}
+use Rattle.paper.specs.Store.{Txn, Store, closed, with_txn}
+use Rattle.paper.specs.Calls.{committed, refused, Outcome, in_open_txn, history_after, active_after, stored, try_store, judged, try_commit, Call, tried}
 use Rattle.paper.proofs.SoundLaws.{rules}
 use Rattle.raw.specs.Bytes.{part, over}
 use Rattle.layout.specs.Layout.{store_in, sound_state, write_store, on_bytes}
 use Rattle.layout.proofs.SoundState.{sound-read, sound-in}
 use Rattle.layout.proofs.Inside as inside
 use Rattle.mvcc.specs.Histories.{opponent_of}
-use Rattle.mvcc.specs.declared.Opposed.{Opposed}
-use Rattle.mvcc.specs.declared.Opposed.TheVariants.{By, Nobody}
+use Rattle.mvcc.specs.declared.Conflict.{Conflict}
+use Rattle.std.specs.Prelude.{Option as Answer, Some, None}
 use Rattle.settings.specs.Shapes.{shape_of}
 use Rattle.settings.specs.declared.Shape.{Shape}
-use Rattle.reply.specs.Told.{Told, told, why, number}
+use Rattle.reply.specs.Told.{Told, told, why, number, refusal_of}
+use Rattle.reply.specs.declared.Refusal as reasons
 use Rattle.reply.specs.OnBytes.{told_on}
 use Rattle.seat.specs.Seats.{Seated}
 use Rattle.committing.specs.Held.{Placed, held_at}
 use Rattle.committing.specs.Storing.{heard_of, opponent_at, MayCommit, MayStore, MayWrite}
-use Rattle.committing.proofs.Held.{held-lies, held-own-none, held-own-some}
+use Rattle.committing.proofs.Held.{held-own-none, held-own-some}
 use Rattle.committing.proofs.Closing.{seat_placed, seat-held, closing}
-use Rattle.committing.proofs.Checks.{commit-missing, commit-closed, commit-none, commit-some, judged-by, judged-clear, store-clock, store-history, store-active, store-done}
+use Rattle.committing.proofs.Checks.{commit_unentered, commit-none, commit-some, judged-by, judged-clear, store-clock, store-history, store-active, store-done}
 use Rattle.committing.proofs.Writing.{placed}
 
 -- what is heard of a refusal, and of an outcome
@@ -53,34 +53,32 @@ heard-commit : (b : Bytes) (handle : ℕ) → heard_of b (try_commit (store_in b
 unfolding told_on on_bytes tried
 heard-commit b handle = refl
 
--- at most, and not the most
-less : (n most : ℕ) → n ≤ most → (n ≡ most → ⊥) → n < most
-less n most h k = omega (arith, h, k)
-
 -- ---- each return of `store_writes`
 module _ (b : Bytes) (o : octets b ≡ true) (z : Shape) (place : ℕ) (m : MayStore b z place) where
   abbrev p : Placed b z place
   p = placed b z place m.commits
 
-  -- the clock lies in the state
-  pub clock-inside : 72 + 8 ≤ length b
-  clock-inside = let L = held-lies b o z place p in omega (arith, L.rows, L.history, L.active, L.area, L.places, L.inside)
-
   module _ (clock : ℕ) (c : clock ≡ number_from 0 (part b 72 8)) where
     clock-is : clock ≡ (store_in b).clock
     clock-is = c ∙ inside.clock-at b (store_in b) o (sound-read b m.commits.sound)
 
+    clock-most : (store_in b).clock ≤ most_number
+    clock-most = leb-true (store_in b).clock most_number (rules (store_in b) (sound-in b m.commits.sound)).clock
+
     -- 'commit with writes, the clock at 2^64-1'
-    pub clock-full : clock ≡ 18446744073709551615 → ◌≡◌ {A = Told × Bytes} (why counter_full, b) (heard_of b (try_store (store_in b) (held_at b place)))
-    clock-full e = heard-stop b (try_store (store_in b) (held_at b place)) counter_full (store-clock (store_in b) (held_at b place) (sym clock-is ∙ e))
+    pub clock-full : (clock + 1 < 18446744073709551616 → ⊥) → ◌≡◌ {A = Told × Bytes} (why counter_full, b) (heard_of b (try_store (store_in b) (held_at b place)))
+    clock-full e = heard-stop b (try_store (store_in b) (held_at b place)) counter_full (store-clock (store_in b) (held_at b place) (omega (arith, clock-is, clock-most)))
 
-    -- what is asked to look at the room
-    pub next-number : Placed b z place × (clock + 1 ≡ (store_in b).clock + 1)
-    next-number = (p, ap (λ (n : ℕ). n + 1) clock-is)
+    module _ (n : ℕ) (q : (clock + 1 < 18446744073709551616) × (n ≡ clock + 1)) where
+      next : n ≡ (store_in b).clock + 1
+      next = omega (arith, clock-is)
 
-    module _ (l : clock ≡ 18446744073709551615 → ⊥) where
+      -- what is asked to look at the room
+      pub next-number : Placed b z place × (n ≡ (store_in b).clock + 1)
+      next-number = (p, next)
+
       below : (store_in b).clock < most_number
-      below = less (store_in b).clock most_number (leb-true (store_in b).clock most_number (rules (store_in b) (sound-in b m.commits.sound)).clock) (λ e. l (clock-is ∙ e))
+      below = omega (arith, clock-is)
 
       -- 'history after pruning plus the new entry above a limit'
       pub history-full : history_fits (store_in b).settings (history_after (store_in b) (held_at b place)) ≡ false → ◌≡◌ {A = Told × Bytes} (why (no_room history), b) (heard_of b (try_store (store_in b) (held_at b place)))
@@ -92,18 +90,18 @@ module _ (b : Bytes) (o : octets b ≡ true) (z : Shape) (place : ℕ) (m : MayS
         active-full f = heard-stop b (try_store (store_in b) (held_at b place)) (no_room active_run) (store-active (store_in b) (held_at b place) below e f)
 
         module _ (f : active_fits (store_in b).settings (active_after (store_in b) (held_at b place)) ≡ true) where
-          pub may_write : MayWrite b z place (clock + 1)
-          may_write = record { stores = m; next = ap (λ (n : ℕ). n + 1) clock-is; number = below; history = e; active = f }
+          pub may_write : MayWrite b z place n
+          may_write = record { stores = m; next = next; number = below; history = e; active = f }
 
-          pub writes-told : (a : Bytes) → a ≡ write_store (stored (store_in b) (held_at b place)) b → ◌≡◌ {A = Told × Bytes} (number (some (clock + 1)), a) (heard_of b (try_store (store_in b) (held_at b place)))
+          pub writes-told : (a : Bytes) → a ≡ write_store (stored (store_in b) (held_at b place)) b → ◌≡◌ {A = Told × Bytes} (number (some n), a) (heard_of b (try_store (store_in b) (held_at b place)))
           writes-told a w =
-              heard-committed b a (try_store (store_in b) (held_at b place)) (some (clock + 1)) (stored (store_in b) (held_at b place))
-              (store-done (store_in b) (held_at b place) below e f ∙ ap (λ (n : ℕ). go (record { reply = committed (some (n + 1)); store = stored (store_in b) (held_at b place) })) (sym clock-is)) w
+              heard-committed b a (try_store (store_in b) (held_at b place)) (some n) (stored (store_in b) (held_at b place))
+              (store-done (store_in b) (held_at b place) below e f ∙ ap (λ (k : ℕ). go (record { reply = committed (some k); store = stored (store_in b) (held_at b place) })) (sym next)) w
 
 -- ---- each return of `judge`
-module _ (b : Bytes) (z : Shape) (place : ℕ) (k : MayCommit b z place) (r : Opposed) (f : opponent_of r ≡ opponent_at b place) where
+module _ (b : Bytes) (z : Shape) (place : ℕ) (k : MayCommit b z place) (r : Answer Conflict) (f : opponent_of r ≡ opponent_at b place) where
   -- nobody is in the way
-  module _ (g : r ≡ Nobody) where
+  module _ (g : r ≡ None) where
     clear : opponent_at b place ≡ none
     clear = sym f ∙ ap opponent_of g
 
@@ -114,10 +112,10 @@ module _ (b : Bytes) (z : Shape) (place : ℕ) (k : MayCommit b z place) (r : Op
     clear_told x w = w ∙ ap (heard_of b) (sym (ap (judged (store_in b) (held_at b place)) clear ∙ judged-clear (store_in b) (held_at b place)))
 
   -- '6 alone marks its transaction closed'
-  pub conflict-told : octets b ≡ true → (n h : ℕ) → r ≡ By n h → (a : Bytes) → a ≡ over b (place + 16) (big_endian 8 0)
-      → ◌≡◌ {A = Told × Bytes} (why (conflicts (record { number = n; hash = h })), a) (heard_of b (judged (store_in b) (held_at b place) (opponent_at b place)))
-  conflict-told o n h g a w =
-      let w₁ : Opponent = record { number = n; hash = h } in
+  pub conflict-told : octets b ≡ true → (c : Conflict) → r ≡ Some c → (a : Bytes) → a ≡ over b (place + 16) (big_endian 8 0)
+      → ◌≡◌ {A = Told × Bytes} (why (conflicts (record { number = c.number; hash = c.hash })), a) (heard_of b (judged (store_in b) (held_at b place) (opponent_at b place)))
+  conflict-told o c g a w =
+      let w₁ : Opponent = record { number = c.number; hash = c.hash } in
       let e : opponent_at b place ≡ some w₁ = sym f ∙ ap opponent_of g in
       let t = seat-held b k.sound z k.shape k.handle place k.read true k.seat o in
       heard-refused b a (judged (store_in b) (held_at b place) (opponent_at b place)) (conflicts w₁) (with_txn (closed k.seat.txn) (store_in b))
@@ -126,11 +124,9 @@ module _ (b : Bytes) (z : Shape) (place : ℕ) (k : MayCommit b z place) (r : Op
 
 -- ---- each return of `commit`
 module _ (b : Bytes) (h : sound_state b ≡ true) (handle : ℕ) where
-  pub no-handle : find_txn handle (store_in b).places ≡ none → ◌≡◌ {A = Told × Bytes} (why no_handle, b) (told_on (Call.commit handle) b)
-  no-handle e = heard-stop b (try_commit (store_in b) handle) no_handle (commit-missing (store_in b) (sound-in b h) handle e) ∙ heard-commit b handle
-
-  pub was-closed : (place read : ℕ) → Seated (store_in b) handle place read false → ◌≡◌ {A = Told × Bytes} (why is_closed, b) (told_on (Call.commit handle) b)
-  was-closed place read q = heard-stop b (try_commit (store_in b) handle) is_closed (commit-closed (store_in b) (sound-in b h) handle q.txn q.found q.marked) ∙ heard-commit b handle
+  -- 3, 4
+  pub told_unentered : (w : reasons.Refusal) → in_open_txn (store_in b) handle ≡ stop (refusal_of w) → ◌≡◌ {A = Told × Bytes} (why (refusal_of w), b) (told_on (Call.commit handle) b)
+  told_unentered w e = heard-stop b (try_commit (store_in b) handle) (refusal_of w) (commit_unentered (store_in b) handle (refusal_of w) e) ∙ heard-commit b handle
 
   module _ (o : octets b ≡ true) (z : Shape) (e : z ≡ shape_of (store_in b).settings) (place read : ℕ) (q : Seated (store_in b) handle place read true) where
     abbrev at : Placed b z place

@@ -1,23 +1,26 @@
 -- The bytes that an accepted commit writes, part by part.
 -- Assumes nothing.
-use Prim.Native.Nat.{ℕ, ◌+◌, ◌≤◌}
+use Prim.Native.Nat.{ℕ, ◌+◌, ◌-◌, ◌≤◌}
 use native.Mathlib.Omega.{arith}
 use mathlib.Core.Path.{◌≡◌, refl, sym, ap, ap₂, ◌∙◌, subst}
 use mathlib.Core.Bool.{true}
-use mathlib.Core.List.{List}
+use mathlib.Core.List.{List, ◌++◌}
 use mathlib.Core.Option.{Option, some}
-use lib.ListN.{length, set}
+use lib.ListN.{length, take, drop, set, take-append-drop}
+use lib.Seq.{length-take-le}
 use borrow.Author.Tests.{leb-true}
 use Rattle.paper.specs.Keys.{Bytes, octets}
 use Rattle.paper.specs.Runs.{Run, run_size}
 use Rattle.paper.specs.History.{Commit, opponent}
 use Rattle.paper.specs.Image.{big_endian, records_bytes}
+use Rattle.paper.proofs.ImageBack.{length-records}
 use Rattle.paper.specs.Refusals.{go}
 use Rattle.paper.specs.Settings.{Settings, state_length}
 use Rattle.paper.specs.Store.{Txn, Store, put_txn, closed, with_clock, with_places, with_history, with_active}
 use Rattle.paper.specs.Calls.{committed, history_after, active_after, stored, judged, Call, tried, of_bytes}
 use Rattle.raw.specs.Bytes.{part, over}
-use Rattle.raw.proofs.Over.{part-over-after}
+use Rattle.raw.proofs.Parts.{length_part, take_part, part-take}
+use Rattle.raw.proofs.Over.{length_over, over-lent, over-within, over-left, part-over-after}
 use Rattle.layout.specs.Offsets.{start_clock, start_history}
 use Rattle.layout.specs.Layout.{listed, commit_stream, version_stream, store_in, write_store}
 use Rattle.layout.proofs.LayoutLaws.{Fits}
@@ -28,12 +31,15 @@ use Rattle.layout.proofs.Lies.{Laid}
 use Rattle.layout.proofs.Inside as inside
 use Rattle.layout.proofs.Changes.{write-clock, write-active, write-closed, fits-history, fits-active, fits-places}
 use Rattle.settings.specs.declared.Shape.{Shape}
-use Rattle.versions.specs.Absorbing.{Absorbable, absorbed}
+use Rattle.overlay.specs.Overlay.{pairs_in, is_overlay}
+use Rattle.key.specs.Versions.{versions, packed}
+use Rattle.versions.specs.Absorbing as absorbing
+use Rattle.versions.specs.Absorbing.{older}
 use Rattle.versions.proofs.Callers.{listed-records}
 use Rattle.reply.proofs.Ends.{done-fits}
 use Rattle.committing.specs.Held.{Placed, held_at}
 use Rattle.committing.specs.Storing.{end_at, Ready, run_with, MayCommit, MayWrite}
-use Rattle.committing.proofs.Held.{held-shape, held-lies, held-is, held-here}
+use Rattle.committing.proofs.Held.{held_shape, held_lies, held-is, held-here}
 use Rattle.committing.proofs.Joining.{ready, joined, ready-same, joined_same}
 use Rattle.committing.proofs.Closing.{seat_placed}
 use Rattle.committing.proofs.Checks.{commit-some, judged-clear, store-done}
@@ -43,24 +49,61 @@ abbrev pub placed : (b : Bytes) (z : Shape) (place : ℕ) → MayCommit b z plac
 placed b z place k = seat_placed b k.sound z k.shape k.handle place k.read true k.seat
 
 -- ---- the active run: its records, and then the number of their bytes in front
-module _ (b : Bytes) (z : Shape) (place n : ℕ) (r : Ready b z place n) (fit : z.active + 8 + run_size (run_with b z place n) ≤ place) (end stop : ℕ) (e : end ≡ end_at b z.active) (f : stop ≡ end_at b (place + 24)) where
-  same-run : absorbed b (z.active + 8) end (place + 32) stop n ≡ run_with b z place n
-  same-run = ap₂ (λ (i j : ℕ). absorbed b (z.active + 8) i (place + 32) j n) e f
+-- the state is cut where the own writes begin: in front of them lies the room of the run, whose records take `used` bytes, and they take `size` bytes
+module _ (b : Bytes) (z : Shape) (place n : ℕ) (r : Ready b z place n) (fit : z.active + 8 + run_size (run_with b z place n) ≤ place) (front back : Bytes) (f : front ≡ take (place + 32) b) (g : back ≡ drop (place + 32) b)
+    (used size : ℕ) (u : used ≡ end_at b z.active - (z.active + 8)) (v : size ≡ end_at b (place + 24) - (place + 32)) where
+  abbrev room : Bytes
+  room = part front (z.active + 8) (length front - (z.active + 8))
 
-  pub active-ready : Absorbable b (z.active + 8) end (place + 32) stop n × (z.active + 8 + run_size (absorbed b (z.active + 8) end (place + 32) stop n) ≤ place + 32)
-  active-ready = (
-    subst (λ (i : ℕ). Absorbable b (z.active + 8) i (place + 32) stop n) (sym e) (subst (λ (j : ℕ). Absorbable b (z.active + 8) (end_at b z.active) (place + 32) j n) (sym f) r),
-    omega (arith, ap run_size same-run, fit),
-  )
+  front-long : length front ≡ place + 32
+  front-long = ap length f ∙ length-take-le (place + 32) b (omega (arith, r.onward, r.inside))
 
-  pub active-written : (size : ℕ) (c d : Bytes) → size ≡ run_size (absorbed b (z.active + 8) end (place + 32) stop n) → c ≡ over b (z.active + 8) (records_bytes (absorbed b (z.active + 8) end (place + 32) stop n))
-      → d ≡ over c z.active (big_endian 8 size) → d ≡ over b z.active ((listed version_stream).put (run_with b z place n))
-  active-written size c d g e₁ e₂ =
-      let a : Run = absorbed b (z.active + 8) end (place + 32) stop n in
-      e₂
-      ∙ ap₂ (λ (u : Bytes) (m : ℕ). over u z.active (big_endian 8 m)) e₁ g
-      ∙ listed-records b z.active a (omega (arith, r.order, r.apart, r.onward, r.inside))
-      ∙ ap (λ (u : Run). over b z.active ((listed version_stream).put u)) same-run
+  pub room-long : length room ≡ place + 32 - (z.active + 8)
+  room-long = length_part front (z.active + 8) (length front - (z.active + 8)) (omega (arith, front-long, fit)) ∙ omega (arith, front-long)
+
+  -- the records, and the own writes
+  records-are : take used room ≡ part b (z.active + 8) (end_at b z.active - (z.active + 8))
+  records-are =
+      take_part front (z.active + 8) (length front - (z.active + 8)) used (omega (arith, front-long, u, r.apart))
+      ∙ ap₂ (λ (t : Bytes) (m : ℕ). part t (z.active + 8) m) f u
+      ∙ part-take b (place + 32) (z.active + 8) (end_at b z.active - (z.active + 8)) (omega (arith, r.order, r.apart))
+
+  own-are : take size back ≡ part b (place + 32) (end_at b (place + 24) - (place + 32))
+  own-are = ap₂ take v g
+
+  pub active-own : is_overlay (take size back) ≡ true
+  active-own = ap is_overlay own-are ∙ r.entries
+
+  module _ (own : Bytes) (e : own ≡ take size back) where
+    same-run : absorbing.joined n (pairs_in own) (versions (take used room)) ≡ run_with b z place n
+    same-run = ap₂ (λ (p q : Bytes). absorbing.joined n (pairs_in p) (versions q)) (e ∙ own-are) records-are
+
+    pub active-ready : (used ≤ length room) × (packed (take used room) ≡ true) × (older n (versions (take used room)) ≡ true) × (run_size (absorbing.joined n (pairs_in own) (versions (take used room))) ≤ length room)
+    active-ready = (
+      omega (arith, room-long, u, r.apart),
+      ap packed records-are ∙ r.whole,
+      ap (λ (t : Bytes). older n (versions t)) records-are ∙ r.aged,
+      omega (arith, room-long, ap run_size same-run, fit),
+    )
+
+    pub active-written : (count : ℕ) (x d : Bytes) → count ≡ run_size (absorbing.joined n (pairs_in own) (versions (take used room))) → x ≡ over room 0 (records_bytes (absorbing.joined n (pairs_in own) (versions (take used room))))
+        → d ≡ over ((take (z.active + 8) front ++ (x ++ drop (length front - (z.active + 8)) (drop (z.active + 8) front))) ++ back) z.active (big_endian 8 count) → d ≡ over b z.active ((listed version_stream).put (run_with b z place n))
+    active-written count x d c h k =
+        let a : Run = run_with b z place n in
+        let y : Bytes = records_bytes a in
+        let ly : length y ≡ run_size a = length-records a in
+        let lr = room-long in
+        let h₁ : x ≡ over room 0 y = h ∙ ap (λ (t : Run). over room 0 (records_bytes t)) same-run in
+        let lx : length x ≡ length front - (z.active + 8) = ap length h₁ ∙ length_over room 0 y (omega (arith, ly, lr, fit)) ∙ omega (arith, lr, front-long) in
+        let i : z.active + 8 + 0 ≡ z.active + 8 = omega arith in
+        k
+        ∙ ap₂ (λ (t : Bytes) (m : ℕ). over (t ++ back) z.active (big_endian 8 m))
+        (over-lent front x (z.active + 8) (length front - (z.active + 8)) lx ∙ ap (over front (z.active + 8)) h₁
+        ∙ over-within front (z.active + 8) (length front - (z.active + 8)) 0 y (omega (arith, front-long, fit)) (omega (arith, ly, front-long, fit)) ∙ ap (λ (j : ℕ). over front j y) i)
+        (c ∙ ap run_size same-run)
+        ∙ ap (λ (t : Bytes). over t z.active (big_endian 8 (run_size a)))
+        (sym (over-left front back (z.active + 8) y (omega (arith, ly, front-long, fit))) ∙ ap (λ (t : Bytes). over t (z.active + 8) y) (ap₂ (λ (p q : Bytes). p ++ q) f g ∙ take-append-drop (place + 32) b))
+        ∙ listed-records b z.active a (omega (arith, r.order, r.apart, r.onward, r.inside))
 
 -- ---- all of it
 module _ (b : Bytes) (o : octets b ≡ true) (z : Shape) (place n : ℕ) (m : MayWrite b z place n) where
@@ -137,8 +180,8 @@ module _ (b : Bytes) (o : octets b ≡ true) (z : Shape) (place n : ℕ) (m : Ma
   -- what enters the history is in front of the active run
   kept : (at w : ℕ) → z.active ≤ at → part (write_store s₁ b) at w ≡ part b at w
   kept at w h =
-      let S = held-shape b o z place p in
-      let L = held-lies b o z place p in
+      let S = held_shape p in
+      let L = held_lies p in
       ap (λ (u : Bytes). part u at w) (inside.change-history b s o (sound-read b k.sound) H fits.history)
       ∙ part-over-after b (start_history st) ((listed commit_stream).put H) (omega (arith, S.history, L.history, L.active, L.area, L.places, L.inside)) at w (omega (arith, fits.history.1, S.history, S.history-wide))
 
@@ -151,7 +194,7 @@ module _ (b : Bytes) (o : octets b ≡ true) (z : Shape) (place n : ℕ) (m : Ma
     kept₁ at w h = ap (λ (u : Bytes). part u at w) e₁ ∙ kept at w h
 
     behind : z.active ≤ place
-    behind = let L = held-lies b o z place p in omega (arith, L.active, L.area, L.places)
+    behind = let L = held_lies p in omega (arith, L.active, L.area, L.places)
 
     run₁ : run_with c₁ z place n ≡ A
     run₁ = joined_same b c₁ z place n long₁ kept₁ behind ∙ joined b o z place p n m.next
@@ -159,21 +202,21 @@ module _ (b : Bytes) (o : octets b ≡ true) (z : Shape) (place n : ℕ) (m : Ma
     -- what is asked to join the own writes with the active run
     pub join-ready : Ready c₁ z place n × (z.active + 8 + run_size (run_with c₁ z place n) ≤ place)
     join-ready =
-        let S = held-shape b o z place p in
-        let L = held-lies b o z place p in
+        let S = held_shape p in
+        let L = held_lies p in
         (ready-same b c₁ z place n long₁ kept₁ behind (ready b o z place p n m.next), omega (arith, ap run_size run₁, leb-true (run_size A) st.active_bytes m.active, S.active-wide, L.area, L.places))
 
     module _ (c₂ : Bytes) (e₂ : c₂ ≡ over c₁ z.active ((listed version_stream).put (run_with c₁ z place n))) where
       written₂ : c₂ ≡ write_store s₂ b
       written₂ =
-          let S = held-shape b o z place p in
+          let S = held_shape p in
           e₂
           ∙ ap₂ (λ (u : Bytes) (r : Run). over u z.active ((listed version_stream).put r)) e₁ run₁
           ∙ ap (λ (j : ℕ). over (write_store s₁ b) j ((listed version_stream).put A)) S.active
           ∙ sym (write-active s₁ b enough fits₁ lies.active A fits.active)
 
       pub mark-inside : place + 24 ≤ length c₂
-      mark-inside = let L = held-lies b o z place p in omega (arith, L.inside, L.wide, ap length written₂, fits-length s₂ b enough fits₂)
+      mark-inside = let L = held_lies p in omega (arith, L.inside, L.wide, ap length written₂, fits-length s₂ b enough fits₂)
 
       module _ (c₃ : Bytes) (e₃ : c₃ ≡ over c₂ (place + 16) (big_endian 8 0)) where
         written₃ : c₃ ≡ write_store s₃ b
@@ -183,7 +226,7 @@ module _ (b : Bytes) (o : octets b ≡ true) (z : Shape) (place n : ℕ) (m : Ma
             ∙ sym (write-closed s₂ b enough fits₂ lies.places i k.seat.inside (held_at b place) (held-here b o z place p))
 
         pub head-inside : 88 ≤ length c₃
-        head-inside = let L = held-lies b o z place p in omega (arith, L.rows, L.history, L.active, L.area, L.places, L.inside, ap length written₃, fits-length s₃ b enough fits₃)
+        head-inside = let L = held_lies p in omega (arith, L.rows, L.history, L.active, L.area, L.places, L.inside, ap length written₃, fits-length s₃ b enough fits₃)
 
         pub all-written : (c₄ : Bytes) → c₄ ≡ over c₃ 72 (big_endian 8 n) → c₄ ≡ write_store (stored (store_in b) (held_at b place)) b
         all-written c₄ e₄ =

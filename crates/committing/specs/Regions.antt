@@ -1,17 +1,15 @@
--- Where the history and the sets of a transaction lie in a state, by its shape.
+-- Where the sets of a transaction lie in a state, by its shape, and what stands in a list.
 -- Assumes nothing.
 use Rattle.std.specs.Prelude.{ℕ, ◌+◌, ◌*◌}
 use Rattle.paper.specs.Keys.{Bytes}
+use Rattle.raw.specs.Bytes.{part}
 use Rattle.settings.specs.declared.Shape.{Shape}
 use Rattle.txn.specs.Place.{used_at}
 use Rattle.committing.specs.declared.history.SetStarts.{SetStarts}
 
--- the history's entries stand behind the number of their bytes
-abbrev pub history_start : Shape → ℕ
-history_start z = z.history + 8
-
-abbrev pub history_end : Bytes → Shape → ℕ
-history_end b z = history_start z + used_at b z.history
+-- the bytes of a list behind the number of them: the history's entries, or the hashes of a set
+abbrev pub list_at : Bytes → ℕ → Bytes
+list_at b at = part b (at + 8) (used_at b at)
 
 -- the sets of the transaction at a place, each with the number of its bytes in front: the read set behind the own writes, then the write set
 abbrev pub set_starts : Shape → ℕ → SetStarts

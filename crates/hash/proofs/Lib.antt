@@ -1,3 +1,1 @@
--- The laws of this crate, by topic.
--- Assumes nothing.
 pub mod Hashing

@@ -1,3 +1,2 @@
 -- Laws of replies and calls by numbers.
-mod Telling
 mod Calling

@@ -7,8 +7,6 @@ use Rattle.paper.specs.Keys.{Bytes}
 use Rattle.paper.specs.Settings.{Settings, in_ranges, state_length}
 use Rattle.paper.specs.Refusals.{Refusal, empty_key, too_long, no_handle, is_closed, no_room, conflicts, counter_full, no_reader, unsound, bad_run, foreign_run, bad_setting, not_understood}
 use Rattle.paper.specs.Calls.{Call}
-use Rattle.lsm.specs.declared.bounds.Edge.{Edge}
-use Rattle.lsm.specs.declared.bounds.Edge.TheVariants.{Included, Excluded, Unbounded}
 use Rattle.reply.specs.Told.{Told, nothing, handle, value, pair, number, why, told_number}
 use Rattle.reply.specs.OnBytes.{told_on}
 
@@ -67,10 +65,6 @@ unfoldable pub number_on : Call → Bytes → ℕ × Bytes
 number_on c b = (told_number (told_on c b).0, (told_on c b).1)
 
 -- ---- what a host hands over by numbers
--- a bound's kind: 0 included, 1 excluded, any other unbounded
-unfoldable pub edge_by : ℕ → Edge
-edge_by kind = cond (eqb kind 0) Included (cond (eqb kind 1) Excluded Unbounded)
-
 -- the settings in their order, the mode first: 1 is serializable
 abbrev pub settings_by : ℕ → ℕ → ℕ → ℕ → ℕ → ℕ → ℕ → ℕ → ℕ → Settings
 settings_by mode transactions overlay reads writes entries hashes active area =

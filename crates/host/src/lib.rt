@@ -2,142 +2,131 @@
 // reply buffer, as many as it has room for. ngalovuki.h says the same in C.
 #![tactic(auto)]
 
-ghost use Rattle.std.specs.Prelude.{◌≡◌, List, ℕ, length, set};
+ghost use Rattle.std.specs.Prelude.{◌≡◌, List, ℕ, length};
 ghost use Rattle.paper.specs.Keys.{Bytes};
-ghost use Rattle.paper.specs.Refusals.{refusal_number};
 ghost use Rattle.paper.specs.Calls.{Call};
 ghost use Rattle.layout.specs.Codec.{flag_number};
 ghost use Rattle.layout.specs.Layout.{sound_state};
 ghost use Rattle.settings.specs.Opening.{settings_of};
-ghost use Rattle.reply.specs.Told.{refusal_of, told_number, told_settled, told_begun, told_got, told_scanned, told_committed};
+ghost use Rattle.reply.specs.Told.{Told, refusal_of, done_told, begun_told, got_told, scanned_told, committed_told, told_by, number_of};
 ghost use Rattle.reply.specs.OnBytes.{value_on, key_on};
+ghost use Rattle.lsm.specs.Edges.{bound_by};
 ghost use Rattle.store.specs.Asked.{get_of, scan_of};
-ghost use Rattle.host.specs.Numbers.{cause_values, values_of, noted, numbers_on, number_on, edge_by, settings_by, length_by, opened_by};
+ghost use Rattle.host.specs.Numbers.{cause_values, values_of, noted, numbers_on, number_on, settings_by, length_by, opened_by};
 
-use lsm::bounds::Edge;
-use reply::{Begun, Committed, Got, Refusal, Scanned, Settled};
+use lsm::bounds::bound_by;
+use reply::{Begun, PairLengths, Refusal};
 use settings::Settings;
 
 // ---- replies by numbers
 
-// Writes a value at a place of the reply buffer, if it has that place.
-fn note(reply: &mut [u64], i: usize, v: u64)
-    ensures { reply.new ≡ set reply.old i v }
+// Writes values at the front of the reply buffer, as many as it has room for.
+#[tactic(auto, unfolding(crate::specs::Numbers::noted))]
+fn note(values: &[u64], reply: &mut [u64])
+    ensures { reply.new ≡ noted values.now reply.old }
 {
-    if i < reply.len() {
-        reply[i] = v;
-    }
+    let n = values.len().min(reply.len());
+    reply[..n].copy_from_slice(&values[..n]);
 }
 
-// A refusal: only that of an opening run has a value, the run's place.
-fn tell_why(why: Refusal, reply: &mut [u64]) -> u64
-    ensures { (result ≡ refusal_number (refusal_of why)) × (reply.new ≡ noted (cause_values (refusal_of why)) reply.old) }
-{
-    let number = reply::number(why);
-    match why {
-        Refusal::BadRun { place } | Refusal::ForeignRun { place } => {
-            note(reply, 0, place as u64);
-            number
-        }
-        _ => number,
-    }
+// What a call answers, by the values that the reply buffer gets.
+trait Answer {
+    ghost told: { Self → Told };
+
+    fn note(self, reply: &mut [u64])
+        ensures { reply.new ≡ noted (values_of (told self)) reply.old };
 }
 
-// An opening: no values.
-fn tell_settled(told: Settled, reply: &mut [u64]) -> u64
-    ensures { (result ≡ told_number (told_settled told)) × (reply.new ≡ noted (values_of (told_settled told)) reply.old) }
-{
-    match told {
-        Settled::Done => 0,
-        Settled::Refused { why } => tell_why(why, reply),
+// An opening that is done has no values.
+impl Answer for () {
+    ghost told = { done_told };
+
+    #[tactic(auto, unfolding(crate::specs::Numbers::values_of))]
+    fn note(self, reply: &mut [u64]) {
+        note(&[], reply);
     }
 }
 
 // A begin: the handle, and the read number.
-fn tell_begun(told: Begun, reply: &mut [u64]) -> u64
-    ensures { (result ≡ told_number (told_begun told)) × (reply.new ≡ noted (values_of (told_begun told)) reply.old) }
-{
-    match told {
-        Begun::Txn { handle, read } => {
-            note(reply, 0, handle);
-            note(reply, 1, read);
-            0
-        }
-        Begun::Refused { why } => tell_why(why, reply),
+impl Answer for Begun {
+    ghost told = { begun_told };
+
+    #[tactic(auto, unfolding(crate::specs::Numbers::values_of))]
+    fn note(self, reply: &mut [u64]) {
+        note(&[self.handle, self.read], reply);
     }
 }
 
 // A get: 1 and the value's length, or 0 where the key is absent.
-fn tell_got(told: Got, reply: &mut [u64]) -> u64
-    ensures { (result ≡ told_number (told_got told)) × (reply.new ≡ noted (values_of (told_got told)) reply.old) }
-{
-    match told {
-        Got::Value { length } => {
-            note(reply, 0, 1);
-            note(reply, 1, length as u64);
-            0
+impl Answer for Option<usize> {
+    ghost told = { got_told };
+
+    #[tactic(auto, unfolding(crate::specs::Numbers::values_of))]
+    fn note(self, reply: &mut [u64]) {
+        match self {
+            Some(length) => note(&[1, length as u64], reply),
+            None => note(&[0], reply),
         }
-        Got::Absent => {
-            note(reply, 0, 0);
-            0
-        }
-        Got::Refused { why } => tell_why(why, reply),
     }
 }
 
-// A scan's answer: 1 and the lengths of key and value, or 0 at the end.
-fn tell_scanned(told: Scanned, reply: &mut [u64]) -> u64
-    ensures { (result ≡ told_number (told_scanned told)) × (reply.new ≡ noted (values_of (told_scanned told)) reply.old) }
-{
-    match told {
-        Scanned::Pair { key, value } => {
-            note(reply, 0, 1);
-            note(reply, 1, key as u64);
-            note(reply, 2, value as u64);
-            0
+// A scan: 1 and the lengths of key and value, or 0 at the end.
+impl Answer for Option<PairLengths> {
+    ghost told = { scanned_told };
+
+    #[tactic(auto, unfolding(crate::specs::Numbers::values_of))]
+    fn note(self, reply: &mut [u64]) {
+        match self {
+            Some(pair) => note(&[1, pair.key as u64, pair.value as u64], reply),
+            None => note(&[0], reply),
         }
-        Scanned::End => {
-            note(reply, 0, 0);
-            0
-        }
-        Scanned::Refused { why } => tell_why(why, reply),
     }
 }
 
 // A commit: 1 and its number, or 0 where it had no writes.
-fn tell_committed(told: Committed, reply: &mut [u64]) -> u64
-    ensures { (result ≡ told_number (told_committed told)) × (reply.new ≡ noted (values_of (told_committed told)) reply.old) }
+impl Answer for Option<u64> {
+    ghost told = { committed_told };
+
+    #[tactic(auto, unfolding(crate::specs::Numbers::values_of))]
+    fn note(self, reply: &mut [u64]) {
+        match self {
+            Some(number) => note(&[1, number], reply),
+            None => note(&[0], reply),
+        }
+    }
+}
+
+// A refusal: only that of an opening run has a value, the run's place.
+#[tactic(auto, unfolding(crate::specs::Numbers::cause_values))]
+fn note_why(why: Refusal, reply: &mut [u64])
+    ensures { reply.new ≡ noted (cause_values (refusal_of why)) reply.old }
+{
+    match why {
+        Refusal::BadRun { place } | Refusal::ForeignRun { place } => note(&[place as u64], reply),
+        _ => note(&[], reply),
+    }
+}
+
+// A reply: the values of its answer or of its refusal go into the buffer, and its number is returned.
+#[tactic(auto, unfolding(crate::specs::Numbers::values_of))]
+fn tell<T: Answer>(told: Result<T, Refusal>, reply: &mut [u64]) -> u64
+    ensures { (result ≡ number_of told) × (reply.new ≡ noted (values_of (told_by T.told told)) reply.old) }
 {
     match told {
-        Committed::Number { number } => {
-            note(reply, 0, 1);
-            note(reply, 1, number);
+        Ok(answer) => {
+            answer.note(reply);
             0
         }
-        Committed::NoWrites => {
-            note(reply, 0, 0);
-            0
+        Err(why) => {
+            note_why(why, reply);
+            why.number()
         }
-        Committed::Refused { why } => tell_why(why, reply),
     }
 }
 
 // ---- what a host hands over
 
-// A bound's kind: 0 included, 1 excluded, any other unbounded.
-fn edge_by(kind: u64) -> Edge
-    ensures { result ≡ edge_by kind }
-{
-    if kind == 0 {
-        return Edge::Included;
-    }
-    if kind == 1 {
-        return Edge::Excluded;
-    }
-    Edge::Unbounded
-}
-
-// The settings, whose mode is 1 where the store is serializable.
+// The settings, whose mode is 1 where the store is serializable. The C interface hands them over as nine numbers.
 fn settings_by(
     mode: u64,
     transactions: u64,
@@ -153,14 +142,14 @@ fn settings_by(
 {
     Settings {
         serializable: mode == 1,
-        transactions: transactions,
-        overlay: overlay,
-        reads: reads,
-        writes: writes,
-        entries: entries,
-        hashes: hashes,
-        active: active,
-        area: area,
+        transactions,
+        overlay,
+        reads,
+        writes,
+        entries,
+        hashes,
+        active,
+        area,
     }
 }
 
@@ -195,10 +184,10 @@ pub extern "C" fn ngalovuki_state_length(
         active,
         area,
     );
-    if !settings::in_ranges(st) {
+    if !st.in_ranges() {
         return 0;
     }
-    settings::state_length(st)
+    st.state_length()
 }
 
 // Opens a store over anything: 12, then the runs from the first, 10 or 11 with the place from 1, then 5.
@@ -221,7 +210,7 @@ pub extern "C" fn ngalovuki_open(
     ensures { ◌≡◌ {A = ℕ × (Bytes × List ℕ)} (result, (state.new, reply.new)) (opened_by serializable (settings_by serializable transactions overlay reads writes entries hashes active area) images.now lengths.now state.old reply.old) }
 {
     if 1 < serializable {
-        return tell_why(Refusal::BadSetting, reply);
+        return tell::<()>(Err(Refusal::BadSetting), reply);
     }
     let st = settings_by(
         serializable,
@@ -234,8 +223,7 @@ pub extern "C" fn ngalovuki_open(
         active,
         area,
     );
-    let told = store::open(state, st, images, lengths);
-    tell_settled(told, reply)
+    tell(store::open(state, st, images, lengths), reply)
 }
 
 // 1 where the state keeps every state rule, whatever the lent memory holds, else 0.
@@ -243,10 +231,7 @@ pub extern "C" fn ngalovuki_open(
 pub extern "C" fn ngalovuki_sound(state: &[u8]) -> u64
     ensures { result ≡ flag_number (sound_state state.now) }
 {
-    if state::sound_state(state) {
-        return 1;
-    }
-    0
+    u64::from(state::sound_state(state))
 }
 
 // Begins a transaction: 9, 5, 7.
@@ -254,8 +239,7 @@ pub extern "C" fn ngalovuki_sound(state: &[u8]) -> u64
 pub extern "C" fn ngalovuki_begin(state: &mut [u8], reply: &mut [u64]) -> u64
     ensures { ◌≡◌ {A = ℕ × (Bytes × List ℕ)} (result, (state.new, reply.new)) (numbers_on Call.begin state.old reply.old) }
 {
-    let told = store::begin(state);
-    tell_begun(told, reply)
+    tell(store::begin(state), reply)
 }
 
 // The value of a key for a transaction, copied to the front of `out`: 9, 3, 4, 1, 2, 5.
@@ -270,8 +254,7 @@ pub extern "C" fn ngalovuki_get(
     ensures { (◌≡◌ {A = ℕ × (Bytes × List ℕ)} (result, (state.new, reply.new)) (numbers_on (get_of handle key.now out.old) state.old reply.old))
         × (out.new ≡ value_on (get_of handle key.now out.old) state.old out.old) }
 {
-    let told = store::get(state, handle, key, out);
-    tell_got(told, reply)
+    tell(store::get(state, handle, key, out), reply)
 }
 
 // The first present key within the bounds and its value, copied to the front of the out buffers, or the end: 9, 3, 4, 5. The next answer comes from the
@@ -288,14 +271,16 @@ pub extern "C" fn ngalovuki_scan(
     value_out: &mut [u8],
     reply: &mut [u64],
 ) -> u64
-    ensures { (◌≡◌ {A = ℕ × (Bytes × List ℕ)} (result, (state.new, reply.new)) (numbers_on (scan_of handle (edge_by low) lo.now (edge_by high) hi.now key_out.old value_out.old) state.old reply.old))
-        × (key_out.new ≡ key_on (scan_of handle (edge_by low) lo.now (edge_by high) hi.now key_out.old value_out.old) state.old key_out.old)
-        × (value_out.new ≡ value_on (scan_of handle (edge_by low) lo.now (edge_by high) hi.now key_out.old value_out.old) state.old value_out.old) }
+    ensures { (◌≡◌ {A = ℕ × (Bytes × List ℕ)} (result, (state.new, reply.new)) (numbers_on (scan_of handle (bound_by low lo.now) (bound_by high hi.now) key_out.old value_out.old) state.old reply.old))
+        × (key_out.new ≡ key_on (scan_of handle (bound_by low lo.now) (bound_by high hi.now) key_out.old value_out.old) state.old key_out.old)
+        × (value_out.new ≡ value_on (scan_of handle (bound_by low lo.now) (bound_by high hi.now) key_out.old value_out.old) state.old value_out.old) }
 {
-    let from = edge_by(low);
-    let upto = edge_by(high);
-    let told = store::scan(state, handle, from, lo, upto, hi, key_out, value_out);
-    tell_scanned(told, reply)
+    let from = bound_by(low, lo);
+    let upto = bound_by(high, hi);
+    tell(
+        store::scan(state, handle, from, upto, key_out, value_out),
+        reply,
+    )
 }
 
 // Writes a value at a key: 9, 3, 4, 1, 2, 5.
@@ -303,8 +288,7 @@ pub extern "C" fn ngalovuki_scan(
 pub extern "C" fn ngalovuki_put(state: &mut [u8], handle: u64, key: &[u8], value: &[u8]) -> u64
     ensures { ◌≡◌ {A = ℕ × Bytes} (result, state.new) (number_on (Call.put handle key.now value.now) state.old) }
 {
-    let told = store::put(state, handle, key, value);
-    reply::settled_number(told)
+    reply::number(store::put(state, handle, key, value))
 }
 
 // Deletes a key: 9, 3, 4, 1, 2, 5.
@@ -312,8 +296,7 @@ pub extern "C" fn ngalovuki_put(state: &mut [u8], handle: u64, key: &[u8], value
 pub extern "C" fn ngalovuki_delete(state: &mut [u8], handle: u64, key: &[u8]) -> u64
     ensures { ◌≡◌ {A = ℕ × Bytes} (result, state.new) (number_on (Call.delete handle key.now) state.old) }
 {
-    let told = store::delete(state, handle, key);
-    reply::settled_number(told)
+    reply::number(store::delete(state, handle, key))
 }
 
 // Commits a transaction: 9, 3, 4, 6, 7, 5. A conflict closes it; after 5 or 7 it stays open.
@@ -321,8 +304,7 @@ pub extern "C" fn ngalovuki_delete(state: &mut [u8], handle: u64, key: &[u8]) ->
 pub extern "C" fn ngalovuki_commit(state: &mut [u8], handle: u64, reply: &mut [u64]) -> u64
     ensures { ◌≡◌ {A = ℕ × (Bytes × List ℕ)} (result, (state.new, reply.new)) (numbers_on (Call.commit handle) state.old reply.old) }
 {
-    let told = store::commit(state, handle);
-    tell_committed(told, reply)
+    tell(store::commit(state, handle), reply)
 }
 
 // Ends a transaction, open or closed: 9, 3.
@@ -330,8 +312,7 @@ pub extern "C" fn ngalovuki_commit(state: &mut [u8], handle: u64, reply: &mut [u
 pub extern "C" fn ngalovuki_end(state: &mut [u8], handle: u64) -> u64
     ensures { ◌≡◌ {A = ℕ × Bytes} (result, state.new) (number_on (Call.end handle) state.old) }
 {
-    let told = store::end(state, handle);
-    reply::settled_number(told)
+    reply::number(store::end(state, handle))
 }
 
 // Freezes the active run: 9, 5.
@@ -339,6 +320,5 @@ pub extern "C" fn ngalovuki_end(state: &mut [u8], handle: u64) -> u64
 pub extern "C" fn ngalovuki_freeze(state: &mut [u8]) -> u64
     ensures { ◌≡◌ {A = ℕ × Bytes} (result, state.new) (number_on Call.freeze state.old) }
 {
-    let told = store::freeze(state);
-    reply::settled_number(told)
+    reply::number(store::freeze(state))
 }

@@ -7,13 +7,11 @@ mod plain; // plain.rt: the verdict once more, written from the paper and unlike
 mod build; // build.rt: images of small versions, of lists of them, and of single records of a given length
 mod trips; // trips.rt: images written, frozen and read back
 
-// Where the lines go: standard output, by its number.
-const STDOUT_FILENO: i32 = 1;
-
-use run::Verdict;
+use run::BadImage;
+use std::io;
 
 // How many images were told as what, and on how many the two verdicts differ.
-#[derive(Clone, Copy)]
+#[derive(Clone, Copy, Default)]
 pub struct Count {
     pub good: u64,
     pub broken: u64,
@@ -21,90 +19,57 @@ pub struct Count {
     pub differ: u64,
 }
 
-fn nothing() -> Count {
-    Count {
-        good: 0,
-        broken: 0,
-        foreign: 0,
-        differ: 0,
+// The paper's number for a verdict.
+fn number(verdict: Result<(), BadImage>) -> u64 {
+    match verdict {
+        Ok(()) => 0,
+        Err(BadImage::Broken) => 10,
+        Err(BadImage::Foreign) => 11,
     }
 }
 
-fn more(n: u64) -> u64 {
-    std::num::wrapping_add_u64(n, 1)
-}
-
-// The paper's number for the library's verdict.
-fn number(image: &[u8]) -> u64 {
-    match run::image::verdict(image) {
-        Verdict::Good { latest: _ } => 0,
-        Verdict::Broken => 10,
-        Verdict::Foreign => 11,
-    }
-}
-
-fn differing(n: u64, told: u64, plainly: u64) -> u64 {
-    if told == plainly { n } else { more(n) }
+fn told(image: &[u8]) -> Result<(), BadImage> {
+    run::image::verdict(image).map(|_| ())
 }
 
 // The first n bytes, or all that there are.
 pub(crate) fn front(s: &[u8], n: usize) -> &[u8] {
-    if n <= s.len() {
-        return &s[..n];
-    }
-    s
+    &s[..n.min(s.len())]
 }
 
-// One image more: the first n bytes.
-pub(crate) fn judged(c: Count, s: &[u8], n: usize) -> Count {
-    let image = front(s, n);
-    let told = number(image);
-    let differ = differing(c.differ, told, plain::verdict(image));
-    match told {
-        0 => Count {
-            good: more(c.good),
-            broken: c.broken,
-            foreign: c.foreign,
-            differ: differ,
-        },
-        11 => Count {
-            good: c.good,
-            broken: c.broken,
-            foreign: more(c.foreign),
-            differ: differ,
-        },
-        _ => Count {
-            good: c.good,
-            broken: more(c.broken),
-            foreign: c.foreign,
-            differ: differ,
-        },
+impl Count {
+    // One image more: the first n bytes.
+    pub(crate) fn judged(mut self, s: &[u8], n: usize) -> Self {
+        let image = front(s, n);
+        let verdict = told(image);
+        if verdict != plain::verdict(image) {
+            self.differ = self.differ.wrapping_add(1);
+        }
+        let seen = match verdict {
+            Ok(()) => &mut self.good,
+            Err(BadImage::Broken) => &mut self.broken,
+            Err(BadImage::Foreign) => &mut self.foreign,
+        };
+        *seen = seen.wrapping_add(1);
+        self
     }
 }
 
-fn print(name: &[u8], n: u64) {
-    io::write_all(STDOUT_FILENO, name);
-    io::print_decimal(STDOUT_FILENO, n);
-}
-
-fn report(name: &[u8], c: Count) {
-    io::write_all(STDOUT_FILENO, name);
-    print(b": good ", c.good);
-    print(b", broken ", c.broken);
-    print(b", foreign ", c.foreign);
-    print(b", differ ", c.differ);
-    io::write_all(STDOUT_FILENO, b"\n");
+fn report(rt: &impl Print, name: &str, c: Count) -> io::Result<()> {
+    let good = c.good;
+    let broken = c.broken;
+    let foreign = c.foreign;
+    let differ = c.differ;
+    println!(rt; "{name}: good {good}, broken {broken}, foreign {foreign}, differ {differ}")
 }
 
 // ---- damaged copies of the first n bytes
 
 // Every cut.
 fn cuts(s: &[u8], n: usize) -> Count {
-    let mut c = nothing();
-    let mut i: usize = 0;
-    while i < n {
-        c = judged(c, s, i);
-        i += 1;
+    let mut c = Count::default();
+    for long in 0..n {
+        c = c.judged(s, long);
     }
     c
 }
@@ -114,214 +79,207 @@ fn changes_at(c: Count, s: &mut [u8], n: usize, i: usize) -> Count {
     if s.len() <= i {
         return c;
     }
-    let mut r = c;
-    let mut k: usize = 0;
-    while k < 255 {
-        s[i] = std::num::wrapping_add_u8(s[i], 1);
-        r = judged(r, s, n);
-        k += 1;
+    let mut c = c;
+    for _ in 0..255 {
+        s[i] = s[i].wrapping_add(1);
+        c = c.judged(s, n);
     }
-    s[i] = std::num::wrapping_add_u8(s[i], 1);
-    r
+    s[i] = s[i].wrapping_add(1);
+    c
 }
 
 // Each byte from `from` to `to` so.
 fn changes(s: &mut [u8], n: usize, from: usize, to: usize) -> Count {
-    let mut c = nothing();
-    let mut i = from;
-    while i < to {
+    let mut c = Count::default();
+    for i in from..to {
         c = changes_at(c, s, n, i);
-        i += 1;
     }
     c
 }
 
 // Each version from `from` to 65,535 in the version's place.
 fn versions(s: &mut [u8], n: usize, from: u64) -> Count {
-    let mut c = nothing();
+    let mut c = Count::default();
     if s.len() < 5 {
         return c;
     }
-    let mut v = from;
-    while v < 65536 {
-        raw::put_be16(s, 3, v);
-        c = judged(c, s, n);
-        v += 1;
+    for version in from..65536 {
+        raw::put_number::<2>(s, 3, version);
+        c = c.judged(s, n);
     }
-    raw::put_be16(s, 3, 1);
+    raw::put_number::<2>(s, 3, 1);
     c
-}
-
-// One byte more.
-fn longer(c: Count, s: &mut [u8], i: usize, byte: u8) -> Count {
-    if s.len() <= i {
-        return c;
-    }
-    s[i] = byte;
-    judged(c, s, i + 1)
 }
 
 // One to 64 bytes after the last record, all of them `byte`.
 fn overlong(s: &mut [u8], n: usize, byte: u8) -> Count {
-    let mut c = nothing();
-    let mut k: usize = 0;
-    while k < 64 {
-        c = longer(c, s, std::num::wrapping_add_usize(n, k), byte);
-        k += 1;
+    let mut c = Count::default();
+    for k in 0..64 {
+        let last = n.wrapping_add(k);
+        if last < s.len() {
+            s[last] = byte;
+            c = c.judged(s, last + 1);
+        }
     }
     c
 }
 
 // ---- lists of versions
 
+// The image of a list, judged.
+fn listed(c: Count, s: &mut [u8], list: &[u8]) -> Count {
+    let n = build::image_of(s, list);
+    c.judged(s, n)
+}
+
 // Two versions, each of the 9 before and after each.
 fn pairs(s: &mut [u8], first: u8) -> Count {
-    let mut c = nothing();
-    let mut j: u8 = 0;
-    while j < 9 {
-        let list = [first, j];
-        let n = build::image_of(s, &list);
-        c = judged(c, s, n);
-        j += 1;
+    let mut c = Count::default();
+    for second in 0..9 {
+        c = listed(c, s, &[first, second]);
     }
     c
 }
 
-// Eight versions in order, with the one at each place changed to `other`.
+// Eight versions in order.
+const RISING: [u8; 8] = [0, 1, 2, 3, 4, 5, 6, 7];
+
+// With the one at each place changed to `other`.
 fn replaced(s: &mut [u8], other: u8) -> Count {
-    let mut c = nothing();
-    let mut i: usize = 0;
-    while i < 8 {
-        let mut list = [0, 1, 2, 3, 4, 5, 6, 7];
+    let mut c = Count::default();
+    for i in 0..8 {
+        let mut list = RISING;
         list[i] = other;
-        let n = build::image_of(s, &list);
-        c = judged(c, s, n);
-        i += 1;
+        c = listed(c, s, &list);
     }
     c
 }
 
 // With two neighbours the wrong way round.
 fn swapped(s: &mut [u8]) -> Count {
-    let mut c = nothing();
-    let mut i: usize = 0;
-    while i < 7 {
-        let mut list = [0, 1, 2, 3, 4, 5, 6, 7];
-        let x = list[i];
-        list[i] = list[i + 1];
-        list[i + 1] = x;
-        let n = build::image_of(s, &list);
-        c = judged(c, s, n);
-        i += 1;
+    let mut c = Count::default();
+    for i in 0..7 {
+        let mut list = RISING;
+        list.swap(i, i + 1);
+        c = listed(c, s, &list);
     }
     c
 }
 
 // With one of them twice.
 fn doubled(s: &mut [u8]) -> Count {
-    let mut c = nothing();
-    let mut i: usize = 0;
-    while i < 7 {
-        let mut list = [0, 1, 2, 3, 4, 5, 6, 7];
+    let mut c = Count::default();
+    for i in 0..7 {
+        let mut list = RISING;
         list[i + 1] = list[i];
-        let n = build::image_of(s, &list);
-        c = judged(c, s, n);
-        i += 1;
+        c = listed(c, s, &list);
     }
     c
 }
 
 // ---- the limits of length
 
-// The image of one record; answers its length.
-fn one(s: &mut [u8], key: &[u8], value: &[u8]) -> usize {
+// The image of one record, judged with `more` bytes behind it.
+fn one(c: Count, s: &mut [u8], key: &[u8], value: &[u8], more: usize) -> Count {
     if s.len() < 9 {
-        return 0;
+        return c.judged(s, more);
     }
     run::write::put_head(s, 0, 1);
-    build::put(s, 9, key, 1, value)
+    let n = build::put(s, 9, key, 1, value);
+    c.judged(s, n.wrapping_add(more))
 }
 
 // A key of k bytes with values of 0, 1 and 65,535 bytes, all from the same bytes.
 fn with_values(s: &mut [u8], bytes: &[u8], k: usize) -> Count {
     let key = front(bytes, k);
-    let n = one(s, key, b"");
-    let c = judged(nothing(), s, n);
-    let n = one(s, key, b"v");
-    let c = judged(c, s, n);
-    let n = one(s, key, front(bytes, 65535));
-    judged(c, s, n)
+    let c = one(Count::default(), s, key, b"", 0);
+    let c = one(c, s, key, b"v", 0);
+    one(c, s, key, front(bytes, 65535), 0)
 }
 
 // A field of 16 bits can't say 65,536: what is written for a key or a value of 65,536 bytes says 0. So such a key is told as
 // empty, such a value as bytes too many, and one byte more behind a value of 65,535 is one too many.
 fn too_long(s: &mut [u8], bytes: &[u8]) -> Count {
-    let n = one(s, front(bytes, 65536), b"v");
-    let c = judged(nothing(), s, n);
-    let n = one(s, b"k", front(bytes, 65536));
-    let c = judged(c, s, n);
-    let n = one(s, b"k", front(bytes, 65535));
-    judged(c, s, std::num::wrapping_add_usize(n, 1))
+    let c = one(Count::default(), s, front(bytes, 65536), b"v", 0);
+    let c = one(c, s, b"k", front(bytes, 65536), 0);
+    one(c, s, b"k", front(bytes, 65535), 1)
 }
 
 // ---- round trips
 
-fn read(image: &[u8], n: usize) {
-    print(b"records ", n as u64);
-    print(b": bytes ", image.len() as u64);
-    print(b", verdict ", number(image));
-    print(b", read back with the end ", trips::read_back(image, n));
-    print(b", followed ", trips::followed(image, n));
+// The image of n records, read back and followed.
+fn read(rt: &impl Print, image: &[u8], n: usize) -> io::Result<()> {
+    let bytes = image.len();
+    let verdict = number(told(image));
+    let back = trips::read_back(image, n);
+    let followed = trips::followed(image, n);
+    print!(rt;
+        "records {n}: bytes {bytes}, verdict {verdict}, read back with the end {back}, followed {followed}"
+    )
 }
 
-fn frozen(name: &[u8], s: &mut [u8], n: usize, to: usize, from: usize) {
-    print(name, trips::frozen(s, n, to, from));
-}
-
-fn trip(s: &mut [u8], n: usize) {
+// Their records frozen apart from where they lie, in place, and where the two places overlap.
+fn trip(rt: &impl Print, s: &mut [u8], n: usize) -> io::Result<()> {
     let long = trips::image(s, n);
-    read(front(s, long), n);
-    frozen(b", frozen apart ", s, n, 100000, 50000);
-    frozen(b", in place ", s, n, 50000, 50000);
-    frozen(b", 9 bytes lower ", s, n, 49991, 50000);
-    frozen(b", 20 bytes lower ", s, n, 49980, 50000);
-    io::write_all(STDOUT_FILENO, b"\n");
+    read(rt, front(s, long), n)?;
+    let apart = trips::frozen(s, n, 100000, 50000);
+    let in_place = trips::frozen(s, n, 50000, 50000);
+    let nine = trips::frozen(s, n, 49991, 50000);
+    let twenty = trips::frozen(s, n, 49980, 50000);
+    println!(rt;
+        ", frozen apart {apart}, in place {in_place}, 9 bytes lower {nine}, 20 bytes lower {twenty}"
+    )
 }
 
-fn main() {
+// Damaged copies of the image of four versions, its first n bytes.
+fn damage(rt: &impl Print, s: &mut [u8], n: usize) -> io::Result<()> {
+    report(rt, "whole image", Count::default().judged(s, n))?;
+    report(rt, "every cut", cuts(s, n))?;
+    report(rt, "every change of the mark", changes(s, n, 0, 3))?;
+    report(rt, "every change of the version", changes(s, n, 3, 5))?;
+    report(rt, "every change of the count", changes(s, n, 5, 9))?;
+    report(rt, "every change of the records", changes(s, n, 9, n))?;
+    report(rt, "versions from 2", versions(s, n, 2))?;
+    report(
+        rt,
+        "versions from 2, cut behind the version",
+        versions(s, 5, 2),
+    )?;
+    report(
+        rt,
+        "versions from 0, cut inside the version",
+        versions(s, 4, 0),
+    )?;
+    report(rt, "zeros after the last record", overlong(s, n, 0))?;
+    report(rt, "other bytes after it", overlong(s, n, 255))
+}
+
+fn lists(rt: &impl Print, s: &mut [u8]) -> io::Result<()> {
+    report(rt, "version 1 first of two", pairs(s, 1))?;
+    report(rt, "version 4 first of two", pairs(s, 4))?;
+    report(rt, "version 7 first of two", pairs(s, 7))?;
+    report(rt, "neighbours the wrong way round", swapped(s))?;
+    report(rt, "a version twice", doubled(s))?;
+    report(rt, "an empty key at each place", replaced(s, 8))?;
+    report(rt, "version 3 at each place", replaced(s, 3))
+}
+
+fn lengths(rt: &impl Print, s: &mut [u8], bytes: &[u8]) -> io::Result<()> {
+    report(rt, "keys of 0 bytes", with_values(s, bytes, 0))?;
+    report(rt, "keys of 1 byte", with_values(s, bytes, 1))?;
+    report(rt, "keys of 65,535 bytes", with_values(s, bytes, 65535))?;
+    report(rt, "lengths of 65,536", too_long(s, bytes))
+}
+
+fn main(rt: HostRuntime) -> io::Result<()> {
     let mut s = [0u8; 200000];
-    let n = build::image_of(&mut s, b"\0\x01\x02\x04");
-    report(b"whole image", judged(nothing(), &s, n));
-    report(b"every cut", cuts(&s, n));
-    report(b"every change of the mark", changes(&mut s, n, 0, 3));
-    report(b"every change of the version", changes(&mut s, n, 3, 5));
-    report(b"every change of the count", changes(&mut s, n, 5, 9));
-    report(b"every change of the records", changes(&mut s, n, 9, n));
-    report(b"versions from 2", versions(&mut s, n, 2));
-    report(
-        b"versions from 2, cut behind the version",
-        versions(&mut s, 5, 2),
-    );
-    report(
-        b"versions from 0, cut inside the version",
-        versions(&mut s, 4, 0),
-    );
-    report(b"zeros after the last record", overlong(&mut s, n, 0));
-    report(b"other bytes after it", overlong(&mut s, n, 255));
-    report(b"version 1 first of two", pairs(&mut s, 1));
-    report(b"version 4 first of two", pairs(&mut s, 4));
-    report(b"version 7 first of two", pairs(&mut s, 7));
-    report(b"neighbours the wrong way round", swapped(&mut s));
-    report(b"a version twice", doubled(&mut s));
-    report(b"an empty key at each place", replaced(&mut s, 8));
-    report(b"version 3 at each place", replaced(&mut s, 3));
     let bytes = [107u8; 65536];
-    report(b"keys of 0 bytes", with_values(&mut s, &bytes, 0));
-    report(b"keys of 1 byte", with_values(&mut s, &bytes, 1));
-    report(b"keys of 65,535 bytes", with_values(&mut s, &bytes, 65535));
-    report(b"lengths of 65,536", too_long(&mut s, &bytes));
-    trip(&mut s, 0);
-    trip(&mut s, 1);
-    trip(&mut s, 2);
-    trip(&mut s, 1000);
+    let n = build::image_of(&mut s, b"\0\x01\x02\x04");
+    damage(&rt, &mut s, n)?;
+    lists(&rt, &mut s)?;
+    lengths(&rt, &mut s, &bytes)?;
+    for n in [0, 1, 2, 1000] {
+        trip(&rt, &mut s, n)?;
+    }
+    Ok(())
 }

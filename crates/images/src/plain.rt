@@ -2,17 +2,20 @@
 // first, and timestamps are compared as bytes.
 ghost use Rattle.std.specs.Prelude.{◌<◌};
 
+use run::BadImage;
+use std::cmp::Ordering;
+
 // The byte at i, 0 behind the end.
 fn at(s: &[u8], i: usize) -> usize
     ensures { result < 256 }
 {
-    if i < s.len() { s[i] as usize } else { 0 }
+    if i < s.len() { usize::from(s[i]) } else { 0 }
 }
 
 fn two(s: &[u8], i: usize) -> usize
     ensures { result < 65536 }
 {
-    at(s, i) * 256 + at(s, std::num::wrapping_add_usize(i, 1))
+    at(s, i) * 256 + at(s, i.wrapping_add(1))
 }
 
 // 'Key length 16 bits, key, timestamp 64 bits, value length 16 bits, value', counted.
@@ -20,103 +23,63 @@ fn size(s: &[u8], i: usize) -> usize
     ensures { result < 131083 }
 {
     let key = two(s, i);
-    12 + key + two(s, std::num::wrapping_add_usize(i, key + 10))
+    12 + key + two(s, i.wrapping_add(key + 10))
 }
 
 // Where the record with a number starts, from 0; further than the end where one before it is cut.
 fn start(s: &[u8], number: usize) -> usize {
     let mut i = 9;
-    let mut k = 0;
-    while k < number {
+    for _ in 0..number {
         if s.len() < i {
             return i;
         }
-        i = std::num::wrapping_add_usize(i, size(s, i));
-        k += 1;
+        i = i.wrapping_add(size(s, i));
     }
     i
 }
 
-// Compares n bytes at a with m bytes at b: 0 where the first come first, 1 where they are the same, 2 where they come last.
-fn compared(s: &[u8], a: usize, n: usize, b: usize, m: usize) -> u8 {
-    let mut i = 0;
-    while i < n {
-        if m <= i {
-            return 2;
+// Compares n bytes at a with m bytes at b: the first byte in which they differ decides, and then their numbers.
+fn compared(s: &[u8], a: usize, n: usize, b: usize, m: usize) -> Ordering {
+    for i in 0..n.min(m) {
+        let order = at(s, a.wrapping_add(i)).cmp(&at(s, b.wrapping_add(i)));
+        if order.is_ne() {
+            return order;
         }
-        let x = at(s, std::num::wrapping_add_usize(a, i));
-        let y = at(s, std::num::wrapping_add_usize(b, i));
-        if x != y {
-            return if x < y { 0 } else { 2 };
-        }
-        i += 1;
     }
-    if n == m { 1 } else { 0 }
+    n.cmp(&m)
 }
 
 // Whether the record at a has its place before the one at b: 'key bytes ascending (a prefix first), then timestamp descending'.
 fn rises(s: &[u8], a: usize, b: usize) -> bool {
     let n = two(s, a);
     let m = two(s, b);
-    let ka = std::num::wrapping_add_usize(a, 2);
-    let kb = std::num::wrapping_add_usize(b, 2);
-    match compared(s, ka, n, kb, m) {
-        0 => true,
-        1 => {
-            let ta = std::num::wrapping_add_usize(ka, n);
-            let tb = std::num::wrapping_add_usize(kb, m);
-            compared(s, tb, 8, ta, 8) == 0
-        }
-        _ => false,
-    }
+    let ka = a.wrapping_add(2);
+    let kb = b.wrapping_add(2);
+    compared(s, ka, n, kb, m)
+        .then(compared(s, kb.wrapping_add(m), 8, ka.wrapping_add(n), 8))
+        .is_lt()
 }
 
 // The record with a number has a key that isn't empty, and stands after the one before it.
 fn right(s: &[u8], number: usize) -> bool {
     let i = start(s, number);
-    if two(s, i) == 0 {
-        return false;
-    }
-    if number == 0 {
-        return true;
-    }
-    rises(s, start(s, number - 1), i)
+    two(s, i) != 0 && (number == 0 || rises(s, start(s, number - 1), i))
 }
 
-fn all_right(s: &[u8], count: usize) -> bool {
-    let mut k = 0;
-    while k < count {
-        if !right(s, k) {
-            return false;
-        }
-        k += 1;
-    }
-    true
-}
-
-// 0, 10 or 11.
-pub(crate) fn verdict(s: &[u8]) -> u64 {
-    if at(s, 0) != 82 {
-        return 10;
-    }
-    if at(s, 1) != 85 {
-        return 10;
-    }
-    if at(s, 2) != 78 {
-        return 10;
-    }
-    if s.len() < 5 {
-        return 10;
+pub(crate) fn verdict(s: &[u8]) -> Result<(), BadImage> {
+    if [at(s, 0), at(s, 1), at(s, 2)] != [82, 85, 78] || s.len() < 5 {
+        return Err(BadImage::Broken);
     }
     if two(s, 3) != 1 {
-        return 11;
+        return Err(BadImage::Foreign);
     }
     if s.len() < 9 {
-        return 10;
+        return Err(BadImage::Broken);
     }
     let count = two(s, 5) * 65536 + two(s, 7);
-    if start(s, count) != s.len() {
-        return 10;
+    if start(s, count) == s.len() && (0..count).all(|number| right(s, number)) {
+        Ok(())
+    } else {
+        Err(BadImage::Broken)
     }
-    if all_right(s, count) { 0 } else { 10 }
 }

@@ -10,9 +10,11 @@ use Rattle.paper.specs.Keys.{Bytes, Version, cmp_key, cmp_version}
 use Rattle.paper.specs.Settings.{most_number}
 use Rattle.paper.proofs.Order.{turned}
 use Rattle.paper.proofs.KeyOrder.{key-order, key-eq}
-use Rattle.raw.proofs.Comparing.{less-than}
-use Rattle.key.specs.Stamps.{range_begin, range_end, stamped}
+use Rattle.raw.proofs.Comparing.{less-than, compare-numbers}
+use Rattle.key.specs.Stamps.{range_begin, range_end, stamped, cmp_stamp}
 use Rattle.key.specs.declared.KeyStamp.{KeyStamp}
+use Rattle.std.specs.Ordering.{nat_cmp, on, flip_args}
+use Rattle.raw.specs.Orders.{ordering}
 
 -- a number is not below one that is at most it
 not-less : (m n : ℕ) → n ≤ m → is_lt (compare m n) ≡ false
@@ -47,3 +49,7 @@ range-only v k b e p q = go (cmp_key v.key k) refl
     go Ordering.gt f =
         let g : cmp_key k v.key ≡ Ordering.lt = key-order.turn v.key k ∙ ap turned f in
         absurd (false≢true (sym q ∙ ap (λ o. is_lt (then_by o (compare v.time e.time))) g))
+
+-- stamps compare by `cmp` as the paper's order of timestamps does
+pub stamps-compare : (a b : KeyStamp) → ordering (flip_args (on (λ (k : KeyStamp). k.time) nat_cmp) a b) ≡ cmp_stamp a b
+stamps-compare a b = compare-numbers b.time a.time

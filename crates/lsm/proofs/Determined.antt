@@ -2,8 +2,10 @@
 -- Assumes nothing.
 use native.Mathlib.Omega.{arith}
 use mathlib.Core.Path.{◌≡◌, refl, sym, ap, ◌∙◌}
-use mathlib.Core.Bool.{Bool, false, true≢false}
+use mathlib.Core.Bool.{Bool}
 use mathlib.Core.Option.{Option}
+use Rattle.std.specs.Prelude as std
+use Rattle.std.specs.Prelude.{None, Some}
 use mathlib.Core.List.{List, [], ◌∷◌, head-eq_of_cons-eq}
 use Prim.Native.Nat.{ℕ, ◌-◌, Ordering}
 use lib.ListN.{length}
@@ -22,22 +24,19 @@ use Rattle.lsm.specs.Lying.{LiesIn, FromOn}
 use Rattle.lsm.specs.Pairs.{pair_bytes, one_pair, fitting, pair_at, PairAt, OwnFrom}
 use Rattle.lsm.specs.Answers.{answer_in, value_in, Says}
 use Rattle.lsm.specs.Seeking.{SoughtAt, PastKey, LowAt, Sought}
-use Rattle.lsm.specs.Shown.{coming, still, is_open, Answered}
-use Rattle.lsm.specs.Overlay.{answer_of}
+use Rattle.lsm.specs.Shown.{shown, left_in, coming_from, Answered}
+use Rattle.merge.specs.Unread.{unread}
+use Rattle.merge.specs.declared.heap.Heap.{Heap}
 use Rattle.lsm.specs.declared.answer.Span.{Span}
-use Rattle.lsm.specs.declared.answer.Answer.{Answer}
-use Rattle.lsm.specs.declared.walk.Mark.{Mark}
-use Rattle.lsm.specs.declared.walk.Mark.TheVariants.{Found, Ended, Looking, Leaving}
-use Rattle.lsm.specs.declared.walk.Walk.{Walk}
 use Rattle.lsm.proofs.PairLaws.{pair-codec}
 
 -- ---- answers
 -- `scan`: two answers that say the same have the same bytes
-pub says_same : (s : Bytes) (o : Option Pair) (a b : Answer) → Says s o a → Says s o b → answer_in s a ≡ answer_in s b
+pub says_same : (s : Bytes) (o : Option Pair) (a b : std.Option Span) → Says s o a → Says s o b → answer_in s a ≡ answer_in s b
 says_same s o a b h k = h.is ∙ sym k.is
 
 -- `get`: two answers have the same value
-pub got_same : (s : Bytes) (o : Option Bytes) (a b : Answer) → value_in s a ≡ o → value_in s b ≡ o → value_in s a ≡ value_in s b
+pub got_same : (s : Bytes) (o : Option Bytes) (a b : std.Option Span) → value_in s a ≡ o → value_in s b ≡ o → value_in s a ≡ value_in s b
 got_same s o a b h k = h ∙ sym k
 
 -- ---- offsets
@@ -72,7 +71,7 @@ past-key-same s k at end r q h g =
 pub own-from-same : (s : Bytes) (lo : Bound) (at end r q : ℕ) → OwnFrom s lo at end r → OwnFrom s lo at end q → r ≡ q
 own-from-same s lo at end r q h k = from-same pair_bytes one_pair cmp_pair fitting pair-codec s end _ at r q h k
 
--- `seek_edge`
+-- `seek_low`
 pub sought-same : (s : Bytes) (lo : Bound) (c r q : Cursor) → Sought s lo c r → Sought s lo c q → r ≡ q
 sought-same s lo c r q h k =
     let e : r.end ≡ q.end = h.end ∙ sym k.end in
@@ -106,28 +105,29 @@ pair_same s at end p q h k =
     g
 
 -- ---- walks
-first-answer : (s : Bytes) (r : ℕ) (hi : Bound) (w : Walk) (m : Mark) → is_open m ≡ false → answer_in s (answer_of m w) ≡ first (coming m s r hi w)
-first-answer s r hi w Found o = refl
-first-answer s r hi w Ended o = refl
-first-answer s r hi w Looking o = absurd (true≢false o)
-first-answer s r hi w Leaving o = absurd (true≢false o)
+first-answer : (s : Bytes) (r : ℕ) (hi : Bound) (h : Heap) (o : std.Option Span) → answer_in s o ≡ first (coming_from s r hi o h)
+first-answer s r hi h None = refl
+first-answer s r hi h (Some p) = refl
 
 rest : List Pair → List Pair
 rest [] = []
 rest (p ∷ ps) = ps
 
-rest-still : (s : Bytes) (r : ℕ) (hi : Bound) (w : Walk) (m : Mark) → is_open m ≡ false → still m s r hi w ≡ rest (coming m s r hi w)
+-- the pairs that come where a walk goes on after a pair, or none where it has ended
+abbrev pub still : Bytes → ℕ → Bound → std.Option Span → Heap → List Pair
+still s r hi None h = []
+still s r hi (Some p) h = shown r hi (left_in s (Some p)) (unread s h)
+
+rest-still : (s : Bytes) (r : ℕ) (hi : Bound) (h : Heap) (o : std.Option Span) → still s r hi o h ≡ rest (coming_from s r hi o h)
 unfolding rest
-rest-still s r hi w Found o = refl
-rest-still s r hi w Ended o = refl
-rest-still s r hi w Looking o = absurd (true≢false o)
-rest-still s r hi w Leaving o = absurd (true≢false o)
+rest-still s r hi h None = refl
+rest-still s r hi h (Some p) = refl
 
 -- `next_pair`: two walks from one place are at the same pair, and the same pairs come after it
-pub answered-same : (s : Bytes) (r : ℕ) (hi : Bound) (ps : List Pair) (w v : Walk) → Answered s r hi ps w → Answered s r hi ps v
-    → (answer_in s (answer_of w.mark w) ≡ answer_in s (answer_of v.mark v)) × (still w.mark s r hi w ≡ still v.mark s r hi v)
-answered-same s r hi ps w v h k =
-    let e : coming w.mark s r hi w ≡ coming v.mark s r hi v = h.same ∙ sym k.same in (
-      first-answer s r hi w w.mark h.settled ∙ ap first e ∙ sym (first-answer s r hi v v.mark k.settled),
-      rest-still s r hi w w.mark h.settled ∙ ap rest e ∙ sym (rest-still s r hi v v.mark k.settled),
+pub answered-same : (s : Bytes) (r : ℕ) (hi : Bound) (ps : List Pair) (h g : Heap) (a b : std.Option Span) → Answered s r hi ps h a → Answered s r hi ps g b
+    → (answer_in s a ≡ answer_in s b) × (still s r hi a h ≡ still s r hi b g)
+answered-same s r hi ps h g a b x y =
+    let e : coming_from s r hi a h ≡ coming_from s r hi b g = x.same ∙ sym y.same in (
+      first-answer s r hi h a ∙ ap first e ∙ sym (first-answer s r hi g b),
+      rest-still s r hi h a ∙ ap rest e ∙ sym (rest-still s r hi g b),
     )

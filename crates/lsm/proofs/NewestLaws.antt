@@ -5,8 +5,11 @@ use mathlib.Core.Path.{◌≡◌, refl, sym, ap, ap₂, ◌∙◌, subst}
 use mathlib.Core.Bool.{Bool, true, false, ◌&&◌, cond, not, true≢false}
 use mathlib.Core.List.{List, [], ◌∷◌, ◌++◌, map, map-append, append-nil, append_assoc}
 use mathlib.Core.Option.{Option, none, some}
-use Prim.Native.Nat.{ℕ, ◌+◌, ◌-◌, ◌≤◌, ◌<◌, Ordering}
-use borrow.Author.Tests.{lt-ltb, le-ltb, ltb-true, ltb-false, le-leb, lt-leb}
+use Rattle.std.specs.Bool.{then_some}
+use Rattle.std.specs.Prelude as std
+use Rattle.std.specs.Prelude.{None, Some}
+use Prim.Native.Nat.{ℕ, ◌+◌, ◌-◌, ◌<◌, Ordering}
+use borrow.Author.Tests.{ltb-true, ltb-false, le-leb, lt-leb}
 use lib.Dec.{leb, ltb}
 use lib.ListN.{length, take, get_or}
 use lib.Seq.{take-suc}
@@ -38,10 +41,6 @@ use Rattle.lsm.specs.Seeking.{not_before}
 use Rattle.lsm.specs.Answers.{value_in, InAnswer}
 use Rattle.lsm.specs.Newest.{best_in, span_of, InBest, newer_of, later, first_of, own_of, present_of, shown_of}
 use Rattle.lsm.specs.declared.answer.Span.{Span}
-use Rattle.lsm.specs.declared.answer.Answer.{Answer}
-use Rattle.lsm.specs.declared.answer.Answer.TheVariants.{At, End}
-use Rattle.lsm.specs.declared.get.Best.{Best}
-use Rattle.lsm.specs.declared.get.Best.TheVariants as best
 use Rattle.lsm.proofs.Basics.{not-true, not-false, some-value, no_value}
 use Rattle.lsm.proofs.PresentLaws.{From, After, after-from, run-from}
 use Rattle.lsm.proofs.SeekLaws.{other_after, by-time}
@@ -152,39 +151,35 @@ module _ (k : Bytes) (t : KeyStamp) where
   newest-sought r e vs ws u f = ap (first_of k) f ∙ sym (ap (λ (n : ℕ). newest k n vs) (sym e) ∙ newest-first k t.time vs u ∙ first-kept vs u)
 
 -- ---- the best so far
-pub best-newer : (s : Bytes) (a b : Best) → best_in s (newer_of a b) ≡ later (best_in s a) (best_in s b)
+pub best-newer : (s : Bytes) (a b : std.Option Place) → best_in s (newer_of a b) ≡ later (best_in s a) (best_in s b)
 unfolding newer
-best-newer s best.Nothing b = refl
-best-newer s (best.At p) best.Nothing = refl
-best-newer s (best.At p) (best.At q) = go (ltb p.time q.time)
+best-newer s None b = refl
+best-newer s (Some p) None = refl
+best-newer s (Some p) (Some q) = go (ltb p.time q.time)
   where
-    go : (c : Bool) → best_in s (cond c (best.At q) (best.At p)) ≡ some (cond c (version_in s q) (version_in s p))
+    go : (c : Bool) → best_in s (cond c (Some q) (Some p)) ≡ some (cond c (version_in s q) (version_in s p))
     go true = refl
     go false = refl
 
-pub newer-in : (s : Bytes) (a b : Best) → InBest s a → InBest s b → InBest s (newer_of a b)
-newer-in s best.Nothing b h k = k
-newer-in s (best.At p) best.Nothing h k = h
-newer-in s (best.At p) (best.At q) h k = go (ltb p.time q.time)
+pub newer-in : (s : Bytes) (a b : std.Option Place) → InBest s a → InBest s b → InBest s (newer_of a b)
+newer-in s None b h k = k
+newer-in s (Some p) None h k = h
+newer-in s (Some p) (Some q) h k = go (ltb p.time q.time)
   where
-    go : (c : Bool) → InBest s (cond c (best.At q) (best.At p))
+    go : (c : Bool) → InBest s (cond c (Some q) (Some p))
     go true = k
     go false = h
 
-pub newer-yes : (a b : Best) (p q : Place) → a ≡ best.At p → b ≡ best.At q → p.time < q.time → best.At q ≡ newer_of a b
-newer-yes a b p q e f l = sym (ap₂ newer_of e f ∙ ap (λ c. cond c (best.At q) (best.At p)) (lt-ltb p.time q.time l))
-
-pub newer-no : (a b : Best) (p q : Place) → a ≡ best.At p → b ≡ best.At q → q.time ≤ p.time → best.At p ≡ newer_of a b
-newer-no a b p q e f l = sym (ap₂ newer_of e f ∙ ap (λ c. cond c (best.At q) (best.At p)) (le-ltb p.time q.time l))
-
-pub first-yes : (k : Bytes) (v : Version) (vs ws : Run) → vs ≡ v ∷ ws → same_key k v.key ≡ true → some v ≡ first_of k vs
-first-yes k v vs ws e f = sym (ap (first_of k) e ∙ ap (λ b. cond b (some v) none) f)
-
-pub first-no : (k : Bytes) (v : Version) (vs ws : Run) → vs ≡ v ∷ ws → same_key k v.key ≡ false → none ≡ first_of k vs
-first-no k v vs ws e f = sym (ap (first_of k) e ∙ ap (λ b. cond b (some v) none) f)
+-- the first version of a run, where a test says whether it has the key
+pub best_found : (s k : Bytes) (p : Place) (vs ws : Run) (b : Bool) → vs ≡ version_in s p ∷ ws → b ≡ same_key k (version_in s p).key → best_in s (then_some b p) ≡ first_of k vs
+best_found s k p vs ws b e f = go b refl ∙ ap (λ c. cond c (some (version_in s p)) none) f ∙ sym (ap (first_of k) e)
+  where
+    go : (c : Bool) → b ≡ c → best_in s (then_some b p) ≡ cond b (some (version_in s p)) none
+    go true q = simp q
+    go false q = simp q
 
 -- after one run more
-module _ (s k : Bytes) (r : ℕ) (cs : List Cursor) (i : ℕ) (l : i < length cs) (a b x : Best) (is : x ≡ newer_of a b) where
+module _ (s k : Bytes) (r : ℕ) (cs : List Cursor) (i : ℕ) (l : i < length cs) (a b x : std.Option Place) (is : x ≡ newer_of a b) where
   pub newest-next : best_in s a ≡ newest k r (join (map (left s) (take i cs))) → best_in s b ≡ newest k r (left s (get_or cs i nowhere)) → best_in s x ≡ newest k r (join (map (left s) (take (i + 1) cs)))
   newest-next e f =
       let m : map (left s) (take (i + 1) cs) ≡ map (left s) (take i cs) ++ (left s (get_or cs i nowhere) ∷ []) =
@@ -193,7 +188,7 @@ module _ (s k : Bytes) (r : ℕ) (cs : List Cursor) (i : ℕ) (l : i < length cs
       ∙ sym (ap (λ (rs : List Run). newest k r (join rs)) m ∙ newest-more k r (map (left s) (take i cs)) (left s (get_or cs i nowhere)))
 
   pub next-in : InBest s a → InBest s b → InBest s x
-  next-in h g = subst (λ (y : Best). InBest s y) (sym is) (newer-in s a b h g)
+  next-in h g = subst (λ (y : std.Option Place). InBest s y) (sym is) (newer-in s a b h g)
 
 pub placed-in : (s : Bytes) (at : ℕ) (p : Place) → Placed s at p → InBytes s (span_of p)
 placed-in s at p h = record { key = h.key; key_in = omega (arith, h.mid, h.value, h.inside); value = h.value; value_in = h.inside }
@@ -249,19 +244,22 @@ module _ (k : Bytes) where
       ∙ own_first (keep (pair_from (included k)) os) (keep-rises cmp_pair pair-order (pair_from (included k)) os r) (all-kept (pair_from (included k)) os)
       ∙ own-kept os
 
-pub own-yes : (k : Bytes) (p : Pair) (os ps : List Pair) → os ≡ p ∷ ps → same_key k p.key ≡ true → some p.value ≡ own_of k os
-own-yes k p os ps e f = sym (ap (own_of k) e ∙ ap (λ b. cond b (some p.value) none) f)
+-- the first of own pairs, where a test says whether it has the key
+pub own_found : (s k : Bytes) (p : Span) (os ps : List Pair) (b : Bool) → os ≡ pair_at s p ∷ ps → b ≡ same_key k (pair_at s p).key → value_in s (then_some b p) ≡ own_of k os
+own_found s k p os ps b e f = go b refl ∙ ap (λ c. cond c (some (pair_at s p).value) none) f ∙ sym (ap (own_of k) e)
+  where
+    go : (c : Bool) → b ≡ c → value_in s (then_some b p) ≡ cond b (some (pair_at s p).value) none
+    go true q = simp q
+    go false q = simp q
 
-pub own-no : (k : Bytes) (p : Pair) (os ps : List Pair) → os ≡ p ∷ ps → same_key k p.key ≡ false → none ≡ own_of k os
-own-no k p os ps e f = sym (ap (own_of k) e ∙ ap (λ b. cond b (some p.value) none) f)
+pub found-in : (s : Bytes) (p : Span) (b : Bool) (o : std.Option Span) → o ≡ then_some b p → InBytes s p → InAnswer s o
+found-in s p b o e i = subst (λ (a : std.Option Span). InAnswer s a) (sym e) (go b)
+  where
+    go : (b : Bool) → InAnswer s (then_some b p)
+    go true = i
+    go false = tt
 
 -- ---- answers
-pub present-yes : (p : Span) → p.vs < p.ve → At p ≡ present_of p
-present-yes p l = sym (ap (λ b. cond b (At p) End) (lt-ltb p.vs p.ve l))
-
-pub present-no : (p : Span) → p.ve ≤ p.vs → End ≡ present_of p
-present-no p l = sym (ap (λ b. cond b (At p) End) (le-ltb p.vs p.ve l))
-
 module _ (s : Bytes) (p : Span) (i : InBytes s p) where
   value-size : length (pair_at s p).value ≡ p.ve - p.vs
   value-size = length_part s p.vs (p.ve - p.vs) (omega (arith, i.value, i.value_in))
@@ -269,40 +267,40 @@ module _ (s : Bytes) (p : Span) (i : InBytes s p) where
   pub present-value : value_in s (present_of p) ≡ unless_empty (pair_at s p).value
   present-value = go (ltb p.vs p.ve) refl
     where
-      go : (b : Bool) → ltb p.vs p.ve ≡ b → value_in s (cond b (At p) End) ≡ unless_empty (pair_at s p).value
+      go : (b : Bool) → ltb p.vs p.ve ≡ b → value_in s (cond b (Some p) None) ≡ unless_empty (pair_at s p).value
       go true e = sym (some-value (pair_at s p).value (omega (arith, value-size, ltb-true p.vs p.ve e)))
       go false e = sym (no_value (pair_at s p).value (omega (arith, value-size, ltb-false p.vs p.ve e)))
 
   pub present-in : InAnswer s (present_of p)
   present-in = go (ltb p.vs p.ve)
     where
-      go : (b : Bool) → InAnswer s (cond b (At p) End)
+      go : (b : Bool) → InAnswer s (cond b (Some p) None)
       go true = i
       go false = tt
 
-pub shown-value : (s : Bytes) (b : Best) → InBest s b → value_in s (shown_of b) ≡ value_of (best_in s b)
-shown-value s best.Nothing i = refl
-shown-value s (best.At p) i = present-value s (span_of p) i
+pub shown-value : (s : Bytes) (b : std.Option Place) → InBest s b → value_in s (shown_of b) ≡ value_of (best_in s b)
+shown-value s None i = refl
+shown-value s (Some p) i = present-value s (span_of p) i
 
-pub shown-in : (s : Bytes) (b : Best) → InBest s b → InAnswer s (shown_of b)
-shown-in s best.Nothing i = tt
-shown-in s (best.At p) i = present-in s (span_of p) i
+pub shown-in : (s : Bytes) (b : std.Option Place) → InBest s b → InAnswer s (shown_of b)
+shown-in s None i = tt
+shown-in s (Some p) i = present-in s (span_of p) i
 
 -- ---- what is seen
-module _ (s k : Bytes) (r : ℕ) (own : List Pair) (rs : List Run) (a x : Answer) (is : value_in s a ≡ own_write k own) where
+module _ (s k : Bytes) (r : ℕ) (own : List Pair) (rs : List Run) (a x : std.Option Span) (is : value_in s a ≡ own_write k own) where
   -- an own write is seen, unless it is a deletion
-  pub seen-own : (p : Span) → a ≡ At p → InAnswer s a → x ≡ present_of p → (value_in s x ≡ seen own (merge rs) r k) × InAnswer s x
+  pub seen-own : (p : Span) → a ≡ Some p → InAnswer s a → x ≡ present_of p → (value_in s x ≡ seen own (merge rs) r k) × InAnswer s x
   unfolding seen
   seen-own p e i f =
-      let j : InBytes s p = subst (λ (y : Answer). InAnswer s y) e i in (
+      let j : InBytes s p = subst (λ (y : std.Option Span). InAnswer s y) e i in (
         ap (value_in s) f ∙ present-value s p j ∙ sym (ap (λ (o : Option Bytes). over o (visible k r (merge rs))) (sym is ∙ ap (value_in s) e)),
-        subst (λ (y : Answer). InAnswer s y) (sym f) (present-in s p j),
+        subst (λ (y : std.Option Span). InAnswer s y) (sym f) (present-in s p j),
       )
 
   -- and where there is none, the newest version of all runs
-  pub seen-newest : (b : Best) → a ≡ End → best_in s b ≡ newest k r (join rs) → InBest s b → x ≡ shown_of b → (value_in s x ≡ seen own (merge rs) r k) × InAnswer s x
+  pub seen-newest : (b : std.Option Place) → a ≡ None → best_in s b ≡ newest k r (join rs) → InBest s b → x ≡ shown_of b → (value_in s x ≡ seen own (merge rs) r k) × InAnswer s x
   unfolding seen visible
   seen-newest b e g i f = (
     ap (value_in s) f ∙ shown-value s b i ∙ ap value_of (g ∙ sym (newest-merge k r rs)) ∙ sym (ap (λ (o : Option Bytes). over o (value_of (newest k r (merge rs)))) (sym is ∙ ap (value_in s) e)),
-    subst (λ (y : Answer). InAnswer s y) (sym f) (shown-in s b i),
+    subst (λ (y : std.Option Span). InAnswer s y) (sym f) (shown-in s b i),
   )

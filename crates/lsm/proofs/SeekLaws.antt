@@ -5,6 +5,10 @@ use native.Mathlib.Decide.{dec_lt}
 use native.Mathlib.Numerals.{add-one}
 use mathlib.Core.Path.{◌≡◌, refl, sym, ap, ap₂, ◌∙◌}
 use mathlib.Core.Bool.{Bool, true, false, ◌&&◌, cond, not, true≢false}
+use mathlib.Core.Option.{none, some}
+use Rattle.std.specs.Prelude as std
+use Rattle.std.specs.Prelude.{None, Some, IfSome}
+use Rattle.std.specs.Option.{option_map_or}
 use mathlib.Core.List.{List, [], ◌∷◌, ◌++◌, map, map-append, head-eq_of_cons-eq, tail-eq_of_cons-eq}
 use Prim.Native.Nat.{ℕ, suc, ◌+◌, ◌-◌, ◌≤◌, ◌<◌, compare, Ordering}
 use borrow.Author.Tests.{leb-true, ltb-false, le-ltb}
@@ -37,6 +41,7 @@ use Rattle.merge.specs.declared.heap.Cursor.{Cursor}
 use Rattle.merge.proofs.CursorLaws.{lawful-is, is_lawful}
 use Rattle.merge.proofs.KeepLaws.{all-always, keep_all, keep-no, keep-alike, keep-both, all-kept, merge-keep}
 use Rattle.lsm.specs.Edges.{is_from}
+use Rattle.lsm.specs.Newest.{best_in, first_of}
 use Rattle.lsm.specs.Seeking.{run_in, RunAt, not_before, SoughtAt, has_key, without, PastKey, LowAt, Sought, AllSought}
 use Rattle.lsm.proofs.Basics.{not-true}
 use Rattle.lsm.proofs.LowLaws.{run-above}
@@ -88,6 +93,33 @@ key-off k (v ∷ vs) h = sym (ap (λ b. cond b vs (v ∷ vs)) h)
 
 pub key-past : (k : Bytes) (w : Version) (ws vs : Run) → vs ≡ w ∷ ws → has_key k vs ≡ true → ws ≡ without k vs
 key-past k w ws vs e h = sym (ap (without k) e ∙ ap (λ b. cond b ws (w ∷ ws)) (ap (has_key k) (sym e) ∙ h))
+
+-- what is found says whether the first version has the key
+has-first : (k : Bytes) (v : Version) (vs : Run) → some v ≡ first_of k vs → has_key k vs ≡ true
+has-first k v [] e = cc
+has-first k v (w ∷ ws) e = go (same_key k w.key) refl
+  where
+    go : (b : Bool) → same_key k w.key ≡ b → same_key k w.key ≡ true
+    go true q = q
+    go false q = let z : some v ≡ none = e ∙ ap (λ b. cond b (some w) none) q in cc
+
+no-first : (k : Bytes) (vs : Run) → none ≡ first_of k vs → has_key k vs ≡ false
+no-first k [] e = refl
+no-first k (w ∷ ws) e = go (same_key k w.key) refl
+  where
+    go : (b : Bool) → same_key k w.key ≡ b → same_key k w.key ≡ false
+    go true q = let z : none ≡ some w = e ∙ ap (λ b. cond b (some w) none) q in cc
+    go false q = q
+
+pub past_found : (s k : Bytes) (at end r : ℕ) (o : std.Option Place) → RunAt s at end → best_in s o ≡ first_of k (run_in s at end) → IfSome o (λ p. Placed s at p) → r ≡ option_map_or (λ p. p.ve) o at
+    → PastKey s k at end r
+past_found s k at end r None ok e t q =
+    rw q (record { lies = ok; past = key-off k (run_in s at end) (no-first k (run_in s at end) e) })
+past_found s k at end r (Some p) ok e t q =
+    let h = has-first k (version_in s p) (run_in s at end) e in
+    let l = run-some s at end (has_key k) refl h in
+    rw q
+    (record { lies = run-onward s at end ok l p t; past = key-past k _ (run_in s p.ve end) (run_in s at end) (run_step s at end ok l p t) h })
 
 -- ---- lower bounds
 fits-number : (v : Version) → storable v ≡ true → v.time ≤ most_number

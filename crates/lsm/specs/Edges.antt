@@ -1,15 +1,20 @@
--- A bound's kind with its key is one of the paper's bounds, and what it lets through.
+-- std's bound over a lent key is one of the paper's bounds, and what it lets through.
 -- Assumes nothing.
-use Rattle.std.specs.Prelude.{Bool}
+use denote.Bor.{Bor}
+use Rattle.std.specs.Prelude.{ℕ, Bool, cond, eqb}
+use Rattle.std.specs.declared.ops.Bound as std
+use Rattle.std.specs.declared.ops.Bound.TheVariants.{Included, Excluded, Unbounded}
 use Rattle.paper.specs.Keys.{Bytes, Version, Pair}
 use Rattle.paper.specs.Bounds.{Bound, included, excluded, unbounded, above, below}
-use Rattle.lsm.specs.declared.bounds.Edge.{Edge}
-use Rattle.lsm.specs.declared.bounds.Edge.TheVariants.{Included, Excluded, Unbounded}
 
-abbrev pub bound_of : Edge → Bytes → Bound
-bound_of Included b = included b
-bound_of Excluded b = excluded b
-bound_of Unbounded b = unbounded
+abbrev pub bound_of : std.Bound (Bor Bytes) → Bound
+bound_of (Included b) = included b.now
+bound_of (Excluded b) = excluded b.now
+bound_of Unbounded = unbounded
+
+-- a bound by the number of its kind: 0 included, 1 excluded, any other unbounded
+abbrev pub bound_by : ℕ → Bytes → Bound
+bound_by kind k = cond (eqb kind 0) (included k) (cond (eqb kind 1) (excluded k) unbounded)
 
 -- the lower bound lets the version through
 abbrev pub is_from : Bound → Version → Bool

@@ -1,7 +1,7 @@
 -- What a get looks for: the own write of its key, and the newest version of it, run by run.
 -- Assumes nothing.
-use Rattle.std.specs.Prelude.{cond, List, [], ◌∷◌, ltb}
-use Rattle.std.proofs.Math.Option.{Option, none, some}
+use Rattle.std.specs.Prelude.{cond, List, [], ◌∷◌, ltb, Option, None, Some}
+use Rattle.std.proofs.Math.Option as paper
 use Rattle.paper.specs.Keys.{Bytes, Version, Pair, same_key}
 use Rattle.paper.specs.Runs.{Run}
 use Rattle.paper.specs.Seen.{newer}
@@ -9,52 +9,48 @@ use Rattle.key.specs.Places.{version_in}
 use Rattle.key.specs.declared.Place.{Place}
 use Rattle.lsm.specs.Pairs.{InBytes}
 use Rattle.lsm.specs.declared.answer.Span.{Span}
-use Rattle.lsm.specs.declared.answer.Answer.{Answer}
-use Rattle.lsm.specs.declared.answer.Answer.TheVariants.{At, End}
-use Rattle.lsm.specs.declared.get.Best.{Best}
-use Rattle.lsm.specs.declared.get.Best.TheVariants as best
 
 -- ---- the best version so far
 -- the version, or none
-abbrev pub best_in : Bytes → Best → Option Version
-best_in s best.Nothing = none
-best_in s (best.At p) = some (version_in s p)
+abbrev pub best_in : Bytes → Option Place → paper.Option Version
+best_in s None = paper.none
+best_in s (Some p) = paper.some (version_in s p)
 
 -- where its key and its value lie
 abbrev pub span_of : Place → Span
 span_of p = record { ks = p.ks; ke = p.ke; vs = p.vs; ve = p.ve }
 
 -- it lies in s
-abbrev pub InBest : Bytes → Best → Type 0
-InBest s best.Nothing = Unit {0}
-InBest s (best.At p) = InBytes s (span_of p)
+abbrev pub InBest : Bytes → Option Place → Type 0
+InBest s None = Unit {0}
+InBest s (Some p) = InBytes s (span_of p)
 
 -- of an earlier run's version and a later run's, 'the version with the largest timestamp', and where they are equal the earlier run's
-abbrev pub newer_of : Best → Best → Best
-newer_of best.Nothing b = b
-newer_of (best.At p) best.Nothing = best.At p
-newer_of (best.At p) (best.At q) = cond (ltb p.time q.time) (best.At q) (best.At p)
+abbrev pub newer_of : Option Place → Option Place → Option Place
+newer_of None b = b
+newer_of (Some p) None = Some p
+newer_of (Some p) (Some q) = cond (ltb p.time q.time) (Some q) (Some p)
 
-abbrev pub later : Option Version → Option Version → Option Version
-later none w = w
-later (some v) w = newer v w
+abbrev pub later : paper.Option Version → paper.Option Version → paper.Option Version
+later paper.none w = w
+later (paper.some v) w = newer v w
 
 -- the first version, if it has the key
-abbrev pub first_of : Bytes → Run → Option Version
-first_of k [] = none
-first_of k (v ∷ vs) = cond (same_key k v.key) (some v) none
+abbrev pub first_of : Bytes → Run → paper.Option Version
+first_of k [] = paper.none
+first_of k (v ∷ vs) = cond (same_key k v.key) (paper.some v) paper.none
 
 -- ---- own writes
 -- the value of the first pair, if it has the key
-abbrev pub own_of : Bytes → List Pair → Option Bytes
-own_of k [] = none
-own_of k (p ∷ ps) = cond (same_key k p.key) (some p.value) none
+abbrev pub own_of : Bytes → List Pair → paper.Option Bytes
+own_of k [] = paper.none
+own_of k (p ∷ ps) = cond (same_key k p.key) (paper.some p.value) paper.none
 
 -- ---- answers
 -- 'an empty value is a deletion'
-abbrev pub present_of : Span → Answer
-present_of p = cond (ltb p.vs p.ve) (At p) End
+abbrev pub present_of : Span → Option Span
+present_of p = cond (ltb p.vs p.ve) (Some p) None
 
-abbrev pub shown_of : Best → Answer
-shown_of best.Nothing = End
-shown_of (best.At p) = present_of (span_of p)
+abbrev pub shown_of : Option Place → Option Span
+shown_of None = None
+shown_of (Some p) = present_of (span_of p)

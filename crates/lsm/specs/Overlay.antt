@@ -1,18 +1,17 @@
 -- Own writes on top of what a snapshot shows: 'the transaction's own last write of a key hides the snapshot'.
 -- Assumes nothing.
 use Prim.Native.Nat.{ℕ, Ordering}
-use Rattle.std.specs.Prelude.{◌≡◌, Bool, true, false, cond, not, List, [], ◌∷◌}
+use Rattle.std.specs.Prelude.{◌≡◌, Bool, true, cond, not, List, [], ◌∷◌, Option, None, Some}
 use Rattle.paper.specs.Lists.{is_lt, rises}
 use Rattle.paper.specs.Keys.{Bytes, Pair, cmp_key, same_key, cmp_pair}
 use Rattle.paper.specs.Bounds.{Bound}
 use Rattle.paper.specs.Seen.{unless_empty, with_value}
+use Rattle.lsm.specs.Pairs.{pair_at}
+use Rattle.lsm.specs.Answers.{InAnswer}
+use Rattle.lsm.specs.Shown.{coming_from}
+use Rattle.lsm.specs.declared.answer.Span.{Span}
 use Rattle.merge.specs.Unread.{Sound}
-use Rattle.lsm.specs.Shown.{coming, is_open, Inside}
-use Rattle.lsm.specs.declared.answer.Answer.{Answer}
-use Rattle.lsm.specs.declared.answer.Answer.TheVariants.{At, End}
-use Rattle.lsm.specs.declared.walk.Mark.{Mark}
-use Rattle.lsm.specs.declared.walk.Mark.TheVariants.{Found, Ended, Looking, Leaving}
-use Rattle.lsm.specs.declared.walk.Walk.{Walk}
+use Rattle.merge.specs.declared.heap.Heap.{Heap}
 
 -- an own write in front of pairs, unless it is a deletion
 abbrev pub show : Pair → List Pair → List Pair
@@ -42,28 +41,14 @@ abbrev pub past_key : Bytes → List Pair → List Pair
 past_key k [] = []
 past_key k (p ∷ ps) = cond (same_key k p.key) ps (p ∷ ps)
 
--- ---- by where a walk stopped
-abbrev pub own_first_at : Mark → Bytes → Bytes → Bool
-own_first_at Found k w = not (is_lt (cmp_key w k))
-own_first_at Ended k w = true
-own_first_at Looking k w = true
-own_first_at Leaving k w = true
-
-abbrev pub same_key_at : Mark → Bytes → Bytes → Bool
-same_key_at Found k w = same_key k w
-same_key_at Ended k w = false
-same_key_at Looking k w = false
-same_key_at Leaving k w = false
-
-abbrev pub answer_of : Mark → Walk → Answer
-answer_of Found w = At (record { ks = w.ks; ke = w.ke; vs = w.vs; ve = w.ve })
-answer_of Ended w = End
-answer_of Looking w = End
-answer_of Leaving w = End
+-- ---- by the pair that a walk found
+-- the key is not after it
+abbrev pub own_first_at : Bytes → Option Span → Bytes → Bool
+own_first_at s None k = true
+own_first_at s (Some p) k = not (is_lt (cmp_key (pair_at s p).key k))
 
 -- a walk stands at the first of the pairs that are still to come
-pub record Standing (s : Bytes) (r : ℕ) (hi : Bound) (w : Walk) : Type 0 where
-  pub sound : Sound s w.heap
-  pub inside : Inside s w
-  pub settled : is_open w.mark ≡ false
-  pub rising : rises cmp_pair (coming w.mark s r hi w) ≡ true
+pub record Standing (s : Bytes) (r : ℕ) (hi : Bound) (h : Heap) (found : Option Span) : Type 0 where
+  pub sound : Sound s h
+  pub inside : InAnswer s found
+  pub rising : rises cmp_pair (coming_from s r hi found h) ≡ true

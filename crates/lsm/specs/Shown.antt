@@ -1,17 +1,19 @@
 -- The walk in key order: what a reader sees of versions in order, one after the other.
 -- Assumes nothing.
-use Rattle.std.specs.Prelude.{ℕ, ◌+◌, ◌-◌, ◌*◌, ◌≤◌, ◌≡◌, Bool, true, false, cond, List, [], ◌∷◌, leb, length}
+use Rattle.std.specs.Prelude.{ℕ, ◌+◌, ◌*◌, ◌≤◌, ◌≡◌, Bool, true, false, cond, List, [], ◌∷◌, leb, length, None, Some}
+use Rattle.std.specs.Prelude as std
 use Rattle.std.proofs.Math.Option.{Option, none, some}
 use Rattle.paper.specs.Keys.{Bytes, Version, Pair, same_key}
 use Rattle.paper.specs.Bounds.{Bound, below}
 use Rattle.paper.specs.Runs.{Run}
 use Rattle.paper.specs.Seen.{unless_empty, with_value}
-use Rattle.raw.specs.Bytes.{part}
 use Rattle.merge.specs.Unread.{unread, Sound}
+use Rattle.merge.specs.declared.heap.Heap.{Heap}
+use Rattle.lsm.specs.Pairs.{pair_at, InBytes}
+use Rattle.lsm.specs.Answers.{InAnswer}
+use Rattle.lsm.specs.declared.answer.Span.{Span}
 use Rattle.lsm.specs.declared.walk.Mark.{Mark}
 use Rattle.lsm.specs.declared.walk.Mark.TheVariants.{Found, Ended, Looking, Leaving}
-use Rattle.lsm.specs.declared.walk.Walk.{Walk}
-use Rattle.merge.specs.declared.heap.Heap.{Heap}
 
 -- whether the version is passed over: where a key is being left, a version of that key
 abbrev pub passes : Option Bytes → Version → Bool
@@ -30,72 +32,60 @@ shown r hi m (v ∷ vs) =
     let inside = cond (below hi v.key) seen [] in
     cond (passes m v) same inside
 
--- ---- what a walk that stopped says
-abbrev pub key_in : Bytes → Walk → Bytes
-key_in s w = part s w.ks (w.ke - w.ks)
-
-abbrev pub pair_in : Bytes → Walk → Pair
-pair_in s w = record { key = key_in s w; value = part s w.vs (w.ve - w.vs) }
-
+-- ---- what a walk that stopped says, over the heap that it left
 -- the pairs that are still to come
-abbrev pub coming : Mark → Bytes → ℕ → Bound → Walk → List Pair
-coming Found s r hi w = pair_in s w ∷ shown r hi (some (key_in s w)) (unread s w.heap)
-coming Ended s r hi w = []
-coming Looking s r hi w = shown r hi none (unread s w.heap)
-coming Leaving s r hi w = shown r hi (some (key_in s w)) (unread s w.heap)
+abbrev pub coming : Mark → Bytes → ℕ → Bound → Heap → List Pair
+coming (Found p) s r hi h = pair_at s p ∷ shown r hi (some (pair_at s p).key) (unread s h)
+coming Ended s r hi h = []
+coming Looking s r hi h = shown r hi none (unread s h)
+coming (Leaving p) s r hi h = shown r hi (some (pair_at s p).key) (unread s h)
 
 -- what is left to do, by the number of unread versions
 abbrev pub to_do : Mark → Bytes → Heap → ℕ
-to_do Found s h = 0
+to_do (Found p) s h = 0
 to_do Ended s h = 0
 to_do Looking s h = 2 * length (unread s h)
-to_do Leaving s h = 2 * length (unread s h) + 1
+to_do (Leaving p) s h = 2 * length (unread s h) + 1
 
 -- a walk that stopped for want of depth has gone n steps on
-abbrev pub GoneOn : Mark → Bytes → Walk → ℕ → ℕ → Type 0
-GoneOn Found s w n start = Unit {0}
-GoneOn Ended s w n start = Unit {0}
-GoneOn Looking s w n start = to_do Looking s w.heap + n ≤ start
-GoneOn Leaving s w n start = to_do Leaving s w.heap + n ≤ start
+abbrev pub GoneOn : Mark → Bytes → Heap → ℕ → ℕ → Type 0
+GoneOn (Found p) s h n start = Unit {0}
+GoneOn Ended s h n start = Unit {0}
+GoneOn Looking s h n start = to_do Looking s h + n ≤ start
+GoneOn (Leaving p) s h n start = to_do (Leaving p) s h + n ≤ start
 
--- the places that a walk gives lie in s
-pub record Inside (s : Bytes) (w : Walk) : Type 0 where
-  pub key : w.ks ≤ w.ke
-  pub key_in : w.ke ≤ length s
-  pub value : w.vs ≤ w.ve
-  pub value_in : w.ve ≤ length s
+-- the place that a walk gives lies in s
+abbrev pub Inside : Bytes → Mark → Type 0
+Inside s (Found p) = InBytes s p
+Inside s Ended = Unit {0}
+Inside s Looking = Unit {0}
+Inside s (Leaving p) = InBytes s p
 
 -- a walk at read number r up to hi, of the pairs ps and with so much to do, by n steps at least
-pub record Walked (s : Bytes) (r : ℕ) (hi : Bound) (ps : List Pair) (start n : ℕ) (w : Walk) : Type 0 where
-  pub sound : Sound s w.heap
-  pub inside : Inside s w
-  pub same : coming w.mark s r hi w ≡ ps
-  pub on : GoneOn w.mark s w n start
+pub record Walked (s : Bytes) (r : ℕ) (hi : Bound) (ps : List Pair) (start n : ℕ) (h : Heap) (m : Mark) : Type 0 where
+  pub sound : Sound s h
+  pub inside : Inside s m
+  pub same : coming m s r hi h ≡ ps
+  pub on : GoneOn m s h n start
 
--- ---- going on
-abbrev pub is_open : Mark → Bool
-is_open Found = false
-is_open Ended = false
-is_open Looking = true
-is_open Leaving = true
+-- ---- from one pair to the next
+-- the key that is left first, where a walk goes on after a pair
+abbrev pub left_in : Bytes → std.Option Span → Option Bytes
+left_in s None = none
+left_in s (Some p) = some (pair_at s p).key
 
--- the pairs that come where a walk goes on: after a pair found, those past its key
-abbrev pub still : Mark → Bytes → ℕ → Bound → Walk → List Pair
-still Found s r hi w = shown r hi (some (key_in s w)) (unread s w.heap)
-still Ended s r hi w = []
-still Looking s r hi w = shown r hi none (unread s w.heap)
-still Leaving s r hi w = shown r hi (some (key_in s w)) (unread s w.heap)
+-- the pair has the key, if there is one
+abbrev pub same_key_at : Bytes → std.Option Span → Bytes → Bool
+same_key_at s None k = false
+same_key_at s (Some p) k = same_key k (pair_at s p).key
 
--- what a walk may have to do where it goes on
-abbrev pub still_to_do : Mark → Bytes → Walk → ℕ
-still_to_do Found s w = to_do Leaving s w.heap
-still_to_do Ended s w = 0
-still_to_do Looking s w = to_do Looking s w.heap
-still_to_do Leaving s w = to_do Leaving s w.heap
+-- from the pair that was found on, or none where that is none
+abbrev pub coming_from : Bytes → ℕ → Bound → std.Option Span → Heap → List Pair
+coming_from s r hi None h = []
+coming_from s r hi (Some p) h = pair_at s p ∷ shown r hi (left_in s (Some p)) (unread s h)
 
 -- of the pairs ps the first is found, or there is none
-pub record Answered (s : Bytes) (r : ℕ) (hi : Bound) (ps : List Pair) (w : Walk) : Type 0 where
-  pub sound : Sound s w.heap
-  pub inside : Inside s w
-  pub same : coming w.mark s r hi w ≡ ps
-  pub settled : is_open w.mark ≡ false
+pub record Answered (s : Bytes) (r : ℕ) (hi : Bound) (ps : List Pair) (h : Heap) (o : std.Option Span) : Type 0 where
+  pub sound : Sound s h
+  pub inside : InAnswer s o
+  pub same : coming_from s r hi o h ≡ ps

@@ -3,13 +3,14 @@ ghost use Rattle.std.specs.Prelude.{◌≡◌, ◌&&◌, ◌<◌};
 ghost use Rattle.paper.specs.Lists.{first, keep};
 ghost use Rattle.lsm.specs.Edges.{bound_of, pair_up_to};
 ghost use Rattle.lsm.specs.Pairs.{own_in, OwnAt, pair_at, PairAt, InBytes, OwnFrom, own_low};
-ghost use Rattle.lsm.specs.Answers.{Says};
-ghost use Rattle.lsm.specs.Shown.{key_in, coming, Inside};
-ghost use Rattle.lsm.specs.Overlay.{put_all, past_key, own_first_at, same_key_at, answer_of, Standing};
+ghost use Rattle.lsm.specs.Answers.{Says, InAnswer};
+ghost use Rattle.lsm.specs.Shown.{coming_from};
+ghost use Rattle.lsm.specs.Overlay.{put_all, own_first_at, Standing};
 
-use super::answer::{Answer, Span};
-use super::bounds::Edge;
-use super::walk::{Mark, Walk};
+use super::answer::Span;
+use super::walk::Reader;
+use merge::heap::Heap;
+use std::ops::Bound;
 
 // The first of the own pairs from `at` to `end`.
 pub fn pair_at(s: &[u8], at: usize, end: usize) -> Span
@@ -20,148 +21,70 @@ pub fn pair_at(s: &[u8], at: usize, end: usize) -> Span
     let ke = ks + raw::length_at(s, at);
     let vs = ke + 2;
     let ve = vs + raw::length_at(s, ke);
-    Span {
-        ks: ks,
-        ke: ke,
-        vs: vs,
-        ve: ve,
-    }
+    Span { ks, ke, vs, ve }
 }
 
 // Whether the first own pair from `at` is below the lower bound.
-fn own_low(s: &[u8], at: usize, end: usize, edge: Edge, lo: &[u8]) -> bool
+fn own_low(s: &[u8], at: usize, end: usize, low: Bound<&[u8]>) -> bool
     requires { OwnAt s.now at end }
-    ensures { result ≡ own_low (bound_of edge lo.now) (own_in s.now at end) }
+    ensures { result ≡ own_low (bound_of low.entry) (own_in s.now at end) }
 {
-    if at == end {
-        return false;
-    }
-    let p = pair_at(s, at, end);
-    let ks = p.ks;
-    let ke = p.ke;
-    !super::bounds::is_above(edge, lo, &s[ks..ke])
+    at < end && !super::bounds::is_above(low, pair_at(s, at, end).key(s))
 }
 
-// Where the own pairs from the lower bound on start.
-pub fn own_from(s: &[u8], start: usize, end: usize, edge: Edge, lo: &[u8]) -> usize
+// Where the own pairs from the lower bound on start. Pairs differ in length, so each is read to find the next; an iterator over them would carry the same two
+// places.
+pub fn own_from(s: &[u8], start: usize, end: usize, low: Bound<&[u8]>) -> usize
     requires { OwnAt s.now start end }
-    ensures { OwnFrom s.now (bound_of edge lo.now) start end result }
+    ensures { OwnFrom s.now (bound_of low.entry) start end result }
 {
     let mut at = start;
-    while own_low(s, at, end, edge, lo) {
-        let p = pair_at(s, at, end);
-        at = p.ve;
+    while own_low(s, at, end, low) {
+        at = pair_at(s, at, end).ve;
     }
     at
 }
 
-fn answer_of(w: Walk) -> Answer
-    ensures { result ≡ answer_of w.mark w }
-{
-    let mark = w.mark;
-    match mark {
-        Mark::Found => Answer::At(Span {
-            ks: w.ks,
-            ke: w.ke,
-            vs: w.vs,
-            ve: w.ve,
-        }),
-        Mark::Ended => Answer::End,
-        Mark::Looking => Answer::End,
-        Mark::Leaving => Answer::End,
+impl Reader<'_> {
+    // Whether an own pair is up to the upper bound, and not after the pair that the walk shows.
+    fn chooses_own(self, shown: Option<Span>, p: Span) -> bool
+        requires { InAnswer self.s.now shown × InBytes self.s.now p }
+        ensures { result ≡ pair_up_to (bound_of self.entry.high) (pair_at self.entry.s.now p)
+            && own_first_at self.entry.s.now shown (pair_at self.entry.s.now p).key }
+    {
+        let key = p.key(self.s);
+        super::bounds::is_below(self.high, key) && shown.is_none_or(|q| !q.is_before(self.s, key))
     }
-}
 
-// Whether an own key comes before the walk's, or is the same; or the walk has ended.
-fn own_first(s: &[u8], w: Walk, p: Span) -> bool
-    requires { Inside s.now w × InBytes s.now p }
-    ensures { result ≡ own_first_at w.mark (pair_at s.now p).key (key_in s.now w) }
-{
-    let mark = w.mark;
-    let a = w.ks;
-    let b = w.ke;
-    let ks = p.ks;
-    let ke = p.ke;
-    match mark {
-        Mark::Found => !super::bounds::less(&s[a..b], &s[ks..ke]),
-        Mark::Ended => true,
-        Mark::Looking => true,
-        Mark::Leaving => true,
-    }
-}
-
-// Whether an own key is that of the pair that the walk found.
-fn same_key(s: &[u8], w: Walk, p: Span) -> bool
-    requires { Inside s.now w × InBytes s.now p }
-    ensures { result ≡ same_key_at w.mark (pair_at s.now p).key (key_in s.now w) }
-{
-    let mark = w.mark;
-    let a = w.ks;
-    let b = w.ke;
-    let ks = p.ks;
-    let ke = p.ke;
-    match mark {
-        Mark::Found => super::bounds::equal(&s[ks..ke], &s[a..b]),
-        Mark::Ended => false,
-        Mark::Looking => false,
-        Mark::Leaving => false,
-    }
-}
-
-// Whether an own pair is up to the upper bound and not after the walk's.
-fn choose_own(s: &[u8], w: Walk, p: Span, edge: Edge, hi: &[u8]) -> bool
-    requires { Inside s.now w × InBytes s.now p }
-    ensures { result ≡ pair_up_to (bound_of edge hi.now) (pair_at s.now p)
-        && own_first_at w.mark (pair_at s.now p).key (key_in s.now w) }
-{
-    let ks = p.ks;
-    let ke = p.ke;
-    if super::bounds::is_below(edge, hi, &s[ks..ke]) {
-        return own_first(s, w, p);
-    }
-    false
-}
-
-// The walk past the pair that an own write hides.
-fn skip_snapshot(s: &[u8], w: Walk, p: Span, read: u64, edge: Edge, hi: &[u8]) -> Walk
-    requires { Standing s.now read (bound_of edge hi.now) w × InBytes s.now p }
-    ensures { Standing s.now read (bound_of edge hi.now) result
-        × (coming result.mark s.now read (bound_of edge hi.now) result
-        ≡ past_key (pair_at s.now p).key (coming w.mark s.now read (bound_of edge hi.now) w)) }
-{
-    if same_key(s, w, p) {
-        return super::walk::next_pair(s, w, read, edge, hi);
-    }
-    w
-}
-
-// The first pair of the own pairs from `start` on top of those that the walk shows.
-pub fn first_over(
-    s: &[u8],
-    from: Walk,
-    start: usize,
-    end: usize,
-    read: u64,
-    edge: Edge,
-    hi: &[u8],
-) -> Answer
-    requires { Standing s.now read (bound_of edge hi.now) from × OwnAt s.now start end }
-    ensures { Says s.now
-        (first (put_all (keep (pair_up_to (bound_of edge hi.now)) (own_in s.now start end))
-        (coming from.mark s.now read (bound_of edge hi.now) from))) result }
-{
-    let mut w = from;
-    let mut at = start;
-    while at < end {
-        let p = pair_at(s, at, end);
-        if !choose_own(s, w, p, edge, hi) {
-            return answer_of(w);
+    // The first pair of the own pairs from `start` to `end` on top of those of a walk that found a pair, or none.
+    pub fn first_over(
+        self,
+        heap: &mut Heap,
+        found: Option<Span>,
+        start: usize,
+        end: usize,
+    ) -> Option<Span>
+        requires { Standing self.s.now self.read (bound_of self.high) heap.old found × OwnAt self.s.now start end }
+        ensures { Says self.entry.s.now
+            (first (put_all (keep (pair_up_to (bound_of self.entry.high)) (own_in self.entry.s.now start end))
+            (coming_from self.entry.s.now self.entry.read (bound_of self.entry.high) found heap.old))) result }
+    {
+        // Pairs differ in length, so where the next one starts is known behind this one alone.
+        let mut shown = found;
+        let mut at = start;
+        while at < end {
+            let p = pair_at(self.s, at, end);
+            if !self.chooses_own(shown, p) {
+                return shown;
+            }
+            if p.vs < p.ve {
+                return Some(p);
+            }
+            if self.same_key(shown, p) {
+                shown = self.next_pair(heap, shown);
+            }
+            at = p.ve;
         }
-        if p.vs < p.ve {
-            return Answer::At(p);
-        }
-        w = skip_snapshot(s, w, p, read, edge, hi);
-        at = p.ve;
+        shown
     }
-    answer_of(w)
 }

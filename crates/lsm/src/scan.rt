@@ -1,5 +1,5 @@
 // The scan of a view.
-ghost use Rattle.std.specs.Prelude.{◌≡◌, true, ◌≤◌, take};
+ghost use Rattle.std.specs.Prelude.{◌≡◌, true};
 ghost use Rattle.paper.specs.Lists.{all};
 ghost use Rattle.paper.specs.Seen.{scanned};
 ghost use Rattle.merge.specs.Cursors.{lawful};
@@ -8,40 +8,40 @@ ghost use Rattle.lsm.specs.Seeking.{AllSought};
 ghost use Rattle.lsm.specs.Answers.{Says};
 ghost use Rattle.lsm.specs.Views.{versions_in, writes_in, Readable};
 
-use super::answer::Answer;
-use super::bounds::Edge;
+use super::answer::Span;
 use super::view::View;
-use super::walk::Mark;
-use merge::heap::Cursor;
+use super::walk::Reader;
+use merge::heap::{Cursor, Heap};
+use std::ops::Bound;
 
-// Each of n cursors at its first version that the lower bound lets through.
-fn seek_all(s: &[u8], cursors: [Cursor; 17], n: usize, edge: Edge, lo: &[u8]) -> [Cursor; 17]
-    requires { (n ≤ 17) × (all (lawful s.now) (take n cursors) ≡ true) }
-    ensures { AllSought s.now (bound_of edge lo.now) (take n cursors) (take n result) }
+// Puts each cursor at its first version that the lower bound lets through.
+fn seek_all(s: &[u8], cursors: &mut [Cursor], low: Bound<&[u8]>)
+    requires { all (lawful s.now) cursors.old ≡ true }
+    ensures { AllSought s.now (bound_of low.entry) cursors.old cursors.new }
 {
-    let mut r = cursors;
-    let mut i = 0;
-    while i < n {
-        let c = cursors[i];
-        let d = super::seek::seek_edge(s, c, edge, lo);
-        r[i] = d;
-        i += 1;
+    for c in cursors.iter_mut() {
+        *c = super::seek::seek_low(s, *c, low);
     }
-    r
 }
 
-// The first present pair within the bounds.
-pub fn scan(s: &[u8], v: View, low: Edge, lo: &[u8], high: Edge, hi: &[u8]) -> Answer
-    requires { Readable s.now v }
-    ensures { Says s.now
-        (scanned (writes_in s.now v) (versions_in s.now v) v.read (bound_of low lo.now) (bound_of high hi.now)) result }
-{
-    let cursors = v.cursors;
-    let n = v.runs;
-    let read = v.read;
-    let end = v.stop;
-    let h = merge::build::heap_of(s, seek_all(s, cursors, n, low, lo), n);
-    let w = super::walk::next_pair(s, super::walk::stopped(h, Mark::Looking), read, high, hi);
-    let at = super::overlay::own_from(s, v.own, end, low, lo);
-    super::overlay::first_over(s, w, at, end, read, high, hi)
+impl View {
+    // The first present pair within the bounds.
+    pub fn scan(&self, s: &[u8], low: Bound<&[u8]>, high: Bound<&[u8]>) -> Option<Span>
+        requires { Readable s.now self.now }
+        ensures { Says s.now
+            (scanned (writes_in s.now self.now) (versions_in s.now self.now) self.now.read (bound_of low.entry) (bound_of high.entry)) result }
+    {
+        let mut places = self.cursors;
+        let cursors = &mut places[..self.runs];
+        seek_all(s, cursors, low);
+        let mut heap = Heap::of(s, cursors);
+        let reader = Reader {
+            s,
+            read: self.read,
+            high,
+        };
+        let found = reader.next_pair(&mut heap, None);
+        let start = super::overlay::own_from(s, self.own, self.stop, low);
+        reader.first_over(&mut heap, found, start, self.stop)
+    }
 }

@@ -1,13 +1,16 @@
-// Seeking: where a run's versions from a key at a stamp on start, and so where they start that a lower bound lets through.
-ghost use Rattle.std.specs.Prelude.{◌≡◌, true};
+// Seeking: where a run's versions from a key at a stamp on start, and so where they start that a lower bound lets through. Each place is an index into all
+// of the bytes, since answers are.
+ghost use Rattle.std.specs.Prelude.{◌≡◌, true, IfSome};
+ghost use Rattle.key.specs.Places.{Placed};
 ghost use Rattle.key.specs.Stamps.{stamped};
 ghost use Rattle.merge.specs.Cursors.{lawful};
 ghost use Rattle.lsm.specs.Edges.{bound_of};
-ghost use Rattle.lsm.specs.Seeking.{run_in, RunAt, SoughtAt, has_key, PastKey, LowAt, Sought};
+ghost use Rattle.lsm.specs.Newest.{best_in, InBest, first_of};
+ghost use Rattle.lsm.specs.Seeking.{run_in, RunAt, SoughtAt, PastKey, LowAt, Sought};
 
-use super::bounds::Edge;
-use key::KeyStamp;
+use key::{KeyStamp, Place};
 use merge::heap::Cursor;
+use std::ops::Bound;
 
 // Where the versions from a key at a stamp on start, of those from `from` to `end`.
 pub fn seek(s: &[u8], from: usize, end: usize, key: &[u8], stamp: KeyStamp) -> usize
@@ -17,18 +20,18 @@ pub fn seek(s: &[u8], from: usize, end: usize, key: &[u8], stamp: KeyStamp) -> u
     run::seek::seek(s, from, end, key, stamp)
 }
 
-// Whether there is a version at `at`, and it has the key.
-fn has_key(s: &[u8], at: usize, end: usize, key: &[u8]) -> bool
+// The version at `at`, if there is one and it has the key.
+pub fn first_of(s: &[u8], at: usize, end: usize, key: &[u8]) -> Option<Place>
     requires { RunAt s.now at end }
-    ensures { result ≡ has_key key.now (run_in s.now at end) }
+    ensures is { best_in s.now result ≡ first_of key.now (run_in s.now at end) }
+    ensures inside { InBest s.now result }
+    ensures there { IfSome result (λ p. Placed s.now at p) }
 {
     if at == end {
-        return false;
+        return None;
     }
     let p = key::version_at(s, at);
-    let ks = p.ks;
-    let ke = p.ke;
-    super::bounds::equal(key, &s[ks..ke])
+    (key == &s[p.ks..p.ke]).then_some(p)
 }
 
 // Past the version at `at`, if it has the key.
@@ -36,38 +39,31 @@ fn past_key(s: &[u8], at: usize, end: usize, key: &[u8]) -> usize
     requires { RunAt s.now at end }
     ensures { PastKey s.now key.now at end result }
 {
-    if has_key(s, at, end, key) {
-        let p = key::version_at(s, at);
-        return p.ve;
-    }
-    at
+    first_of(s, at, end, key).map_or(at, |p| p.ve)
 }
 
 // Where the versions start that a lower bound lets through: an included bound's from the first version of its key on, an excluded bound's past the last.
-fn low_at(s: &[u8], from: usize, end: usize, edge: Edge, lo: &[u8]) -> usize
+fn low_at(s: &[u8], from: usize, end: usize, low: Bound<&[u8]>) -> usize
     requires { RunAt s.now from end }
-    ensures { LowAt s.now (bound_of edge lo.now) from end result }
+    ensures { LowAt s.now (bound_of low.entry) from end result }
 {
-    match edge {
-        Edge::Included => seek(s, from, end, lo, KeyStamp::for_range_begin()),
-        Edge::Excluded => past_key(
-            s,
-            seek(s, from, end, lo, KeyStamp::for_range_end()),
-            end,
-            lo,
-        ),
-        Edge::Unbounded => from,
+    match low {
+        Bound::Included(lo) => seek(s, from, end, lo, KeyStamp::for_range_begin()),
+        Bound::Excluded(lo) => {
+            let last = seek(s, from, end, lo, KeyStamp::for_range_end());
+            past_key(s, last, end, lo)
+        }
+        Bound::Unbounded => from,
     }
 }
 
 // The cursor there.
-pub fn seek_edge(s: &[u8], c: Cursor, edge: Edge, lo: &[u8]) -> Cursor
+pub fn seek_low(s: &[u8], c: Cursor, low: Bound<&[u8]>) -> Cursor
     requires { lawful s.now c ≡ true }
-    ensures { Sought s.now (bound_of edge lo.now) c result }
+    ensures { Sought s.now (bound_of low.entry) c result }
 {
     Cursor {
-        at: low_at(s, c.at, c.end, edge, lo),
-        end: c.end,
-        run: c.run,
+        at: low_at(s, c.at, c.end, low),
+        ..c
     }
 }

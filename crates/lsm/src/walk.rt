@@ -1,189 +1,120 @@
 // The visibility walk over a merge: leaving a key and looking for its visible version call each other while unread versions fall, 64 deep at most,
-// under a loop. It takes the place of `move_to_key` and its nested loops.
-ghost use Rattle.std.specs.Prelude.{◌≡◌, ◌-◌, ◌≤◌, ◌<◌, length};
+// under a loop: the scope document names this form. It takes the place of `move_to_key` and its nested loops.
+ghost use Rattle.std.specs.Prelude.{◌≡◌, ◌<◌};
 ghost use Rattle.std.proofs.Math.Option.{none, some};
 ghost use Rattle.paper.specs.Keys.{same_key};
-ghost use Rattle.raw.specs.Bytes.{part};
 ghost use Rattle.merge.specs.Unread.{unread, Sound, least};
 ghost use Rattle.lsm.specs.Edges.{bound_of};
-ghost use Rattle.lsm.specs.Shown.{shown, Walked, to_do, Inside, is_open, still, still_to_do, Answered};
+ghost use Rattle.lsm.specs.Pairs.{InBytes, pair_at};
+ghost use Rattle.lsm.specs.Answers.{InAnswer};
+ghost use Rattle.lsm.specs.Shown.{shown, to_do, left_in, same_key_at, Walked, Answered};
 
-use super::bounds::Edge;
-use key::Place;
+use super::answer::Span;
 use merge::heap::Heap;
+use std::ops::Bound;
 
-// Why a walk stopped: at a visible version; at the end; for want of depth, looking for a visible version, or leaving a key.
+// A reader: the bytes in which the runs and the own writes lie, the read number, and the upper bound.
+#[derive(Clone, Copy)]
+pub struct Reader<'a> {
+    pub s: &'a [u8],
+    pub read: u64,
+    pub high: Bound<&'a [u8]>,
+}
+
+// Why a walk stopped: at a visible version, whose place it has; at the end; for want of depth, looking for a visible version, or leaving a version's key.
 #[derive(Clone, Copy)]
 pub enum Mark {
-    Found,
+    Found(Span),
     Ended,
     Looking,
-    Leaving,
+    Leaving(Span),
 }
 
-// Where a walk stopped: the key found or to be left lies from ks to ke, the value found from vs to ve.
-#[derive(Clone, Copy)]
-pub struct Walk {
-    pub heap: Heap,
-    pub mark: Mark,
-    pub ks: usize,
-    pub ke: usize,
-    pub vs: usize,
-    pub ve: usize,
-}
+impl Reader<'_> {
+    // Whether a pair has the key of another one, which may be none.
+    pub fn same_key(self, other: Option<Span>, p: Span) -> bool
+        requires { InAnswer self.s.now other × InBytes self.s.now p }
+        ensures { result ≡ same_key_at self.entry.s.now other (pair_at self.entry.s.now p).key }
+    {
+        let key = p.key(self.s);
+        other.is_some_and(|q| q.has_key(self.s, key))
+    }
 
-pub fn stopped(h: Heap, mark: Mark) -> Walk
-    ensures { result ≡ record { heap = h; mark = mark; ks = 0; ke = 0; vs = 0; ve = 0 } }
-{
-    Walk {
-        heap: h,
-        mark: mark,
-        ks: 0,
-        ke: 0,
-        vs: 0,
-        ve: 0,
+    // Whether the least version has the key of a pair.
+    fn key_is(self, heap: &Heap, p: Span) -> bool
+        requires { Sound self.s.now heap.now × (0 < heap.now.len) × InBytes self.s.now p }
+        ensures { result ≡ same_key (pair_at self.entry.s.now p).key (least self.entry.s.now heap.now).key }
+    {
+        let least = Span::from(key::version_at(self.s, heap.cursors[0].at));
+        least.has_key(self.s, p.key(self.s))
     }
-}
 
-fn leaving(h: Heap, ks: usize, ke: usize) -> Walk
-    ensures { result ≡ record { heap = h; mark = Mark.Leaving; ks = ks; ke = ke; vs = 0; ve = 0 } }
-{
-    Walk {
-        heap: h,
-        mark: Mark::Leaving,
-        ks: ks,
-        ke: ke,
-        vs: 0,
-        ve: 0,
+    // Looks for the next visible version: the first of its key at or below the read number.
+    #[cycle(leave_key_seek_visible)]
+    fn seek_visible(self, heap: &mut Heap, fuel: usize) -> Mark
+        requires { Sound self.s.now heap.old }
+        ensures { Walked self.entry.s.now self.entry.read (bound_of self.entry.high)
+            (shown self.entry.read (bound_of self.entry.high) none (unread self.entry.s.now heap.old))
+            (to_do Mark.Looking self.entry.s.now heap.old) fuel heap.new result }
+    {
+        if heap.len == 0 {
+            return Mark::Ended;
+        }
+        if fuel == 0 {
+            return Mark::Looking;
+        }
+        let version = key::version_at(self.s, heap.cursors[0].at);
+        let p = Span::from(version);
+        if !super::bounds::is_below(self.high, p.key(self.s)) {
+            return Mark::Ended;
+        }
+        if self.read < version.time {
+            heap.pass(self.s);
+            return self.seek_visible(heap, fuel - 1);
+        }
+        if p.vs < p.ve {
+            return Mark::Found(p);
+        }
+        heap.pass(self.s);
+        self.leave_key(heap, p, fuel - 1)
     }
-}
 
-fn found(h: Heap, p: Place) -> Walk
-    ensures { result ≡ record { heap = h; mark = Mark.Found; ks = p.ks; ke = p.ke; vs = p.vs; ve = p.ve } }
-{
-    Walk {
-        heap: h,
-        mark: Mark::Found,
-        ks: p.ks,
-        ke: p.ke,
-        vs: p.vs,
-        ve: p.ve,
+    // Leaves the key of a pair: passes the versions of it that are still in front.
+    #[cycle(leave_key_seek_visible)]
+    fn leave_key(self, heap: &mut Heap, p: Span, fuel: usize) -> Mark
+        requires { Sound self.s.now heap.old × InBytes self.s.now p }
+        ensures { Walked self.entry.s.now self.entry.read (bound_of self.entry.high)
+            (shown self.entry.read (bound_of self.entry.high) (some (pair_at self.entry.s.now p).key) (unread self.entry.s.now heap.old))
+            (to_do (Mark.Leaving p) self.entry.s.now heap.old) fuel heap.new result }
+    {
+        if heap.len == 0 {
+            return Mark::Ended;
+        }
+        if fuel == 0 {
+            return Mark::Leaving(p);
+        }
+        if self.key_is(heap, p) {
+            heap.pass(self.s);
+            return self.leave_key(heap, p, fuel - 1);
+        }
+        self.seek_visible(heap, fuel - 1)
     }
-}
 
-// Whether the least version has the key from ks to ke.
-fn key_is(s: &[u8], h: Heap, ks: usize, ke: usize) -> bool
-    requires { Sound s.now h × (0 < h.len) × (ks ≤ ke) × (ke ≤ length s.now) }
-    ensures { result ≡ same_key (part s.now ks (ke - ks)) (least s.now h).key }
-{
-    let c = h.cursors[0];
-    let at = c.at;
-    let p = key::version_at(s, at);
-    let a = p.ks;
-    let e = p.ke;
-    super::bounds::equal(&s[ks..ke], &s[a..e])
-}
-
-// Looks for the next visible version: the first of its key at or below the read number.
-#[cycle(leave_key_seek_visible)]
-fn seek_visible(s: &[u8], h: Heap, read: u64, edge: Edge, hi: &[u8], fuel: usize) -> Walk
-    requires { Sound s.now h }
-    ensures { Walked s.now read (bound_of edge hi.now)
-        (shown read (bound_of edge hi.now) none (unread s.now h))
-        (to_do Mark.Looking s.now h) fuel result }
-{
-    if h.len == 0 {
-        return stopped(h, Mark::Ended);
+    // The next pair that is visible at the read number, up to the upper bound: the first of a merge, or the one after a pair that was found. Where a walk
+    // stops for want of depth, it goes on.
+    pub fn next_pair(self, heap: &mut Heap, after: Option<Span>) -> Option<Span>
+        requires { Sound self.s.now heap.old × InAnswer self.s.now after }
+        ensures { Answered self.entry.s.now self.entry.read (bound_of self.entry.high)
+            (shown self.entry.read (bound_of self.entry.high) (left_in self.entry.s.now after) (unread self.entry.s.now heap.old)) heap.new result }
+    {
+        let mut mark = after.map_or(Mark::Looking, |p| Mark::Leaving(p));
+        loop {
+            mark = match mark {
+                Mark::Looking => self.seek_visible(heap, 64),
+                Mark::Leaving(p) => self.leave_key(heap, p, 64),
+                Mark::Found(p) => return Some(p),
+                Mark::Ended => return None,
+            };
+        }
     }
-    if fuel == 0 {
-        return stopped(h, Mark::Looking);
-    }
-    let c = h.cursors[0];
-    let at = c.at;
-    let p = key::version_at(s, at);
-    let ks = p.ks;
-    let ke = p.ke;
-    if !super::bounds::is_below(edge, hi, &s[ks..ke]) {
-        return stopped(h, Mark::Ended);
-    }
-    if read < p.time {
-        return seek_visible(s, merge::step::next(s, h), read, edge, hi, fuel - 1);
-    }
-    if p.vs < p.ve {
-        return found(h, p);
-    }
-    leave_key(s, merge::step::next(s, h), ks, ke, read, edge, hi, fuel - 1)
-}
-
-// Leaves a key: passes the versions of it that are still in front.
-#[cycle(leave_key_seek_visible)]
-fn leave_key(
-    s: &[u8],
-    h: Heap,
-    ks: usize,
-    ke: usize,
-    read: u64,
-    edge: Edge,
-    hi: &[u8],
-    fuel: usize,
-) -> Walk
-    requires { Sound s.now h × (ks ≤ ke) × (ke ≤ length s.now) }
-    ensures { Walked s.now read (bound_of edge hi.now)
-        (shown read (bound_of edge hi.now) (some (part s.now ks (ke - ks))) (unread s.now h))
-        (to_do Mark.Leaving s.now h) fuel result }
-{
-    if h.len == 0 {
-        return stopped(h, Mark::Ended);
-    }
-    if fuel == 0 {
-        return leaving(h, ks, ke);
-    }
-    if key_is(s, h, ks, ke) {
-        return leave_key(s, merge::step::next(s, h), ks, ke, read, edge, hi, fuel - 1);
-    }
-    seek_visible(s, h, read, edge, hi, fuel - 1)
-}
-
-// Goes on where a walk stopped, 64 deep at most.
-fn resume(s: &[u8], w: Walk, read: u64, edge: Edge, hi: &[u8]) -> Walk
-    requires { Sound s.now w.heap × Inside s.now w }
-    ensures { Walked s.now read (bound_of edge hi.now)
-        (still w.mark s.now read (bound_of edge hi.now) w)
-        (still_to_do w.mark s.now w) 64 result }
-{
-    let mark = w.mark;
-    let h = w.heap;
-    let ks = w.ks;
-    let ke = w.ke;
-    match mark {
-        Mark::Looking => seek_visible(s, h, read, edge, hi, 64),
-        Mark::Leaving => leave_key(s, h, ks, ke, read, edge, hi, 64),
-        Mark::Found => leave_key(s, h, ks, ke, read, edge, hi, 64),
-        Mark::Ended => stopped(h, Mark::Ended),
-    }
-}
-
-fn is_open(w: Walk) -> bool
-    ensures { result ≡ is_open w.mark }
-{
-    let mark = w.mark;
-    match mark {
-        Mark::Looking => true,
-        Mark::Leaving => true,
-        Mark::Found => false,
-        Mark::Ended => false,
-    }
-}
-
-// The next pair that is visible at the read number, up to the upper bound: the walk goes on from where it stopped.
-pub fn next_pair(s: &[u8], from: Walk, read: u64, edge: Edge, hi: &[u8]) -> Walk
-    requires { Sound s.now from.heap × Inside s.now from }
-    ensures { Answered s.now read (bound_of edge hi.now)
-        (still from.mark s.now read (bound_of edge hi.now) from) result }
-{
-    let mut w = resume(s, from, read, edge, hi);
-    while is_open(w) {
-        w = resume(s, w, read, edge, hi);
-    }
-    w
 }

@@ -4,13 +4,13 @@ use native.Mathlib.Omega.{arith}
 use native.Mathlib.Decide.{ℕ_discrete}
 use mathlib.Core.Path.{◌≡◌, refl, sym, ap, ap₂, ◌∙◌}
 use mathlib.Core.Bool.{Bool, true, false, cond}
-use mathlib.Core.List.{List, [], ◌∷◌, ◌++◌, map, append-nil}
+use mathlib.Core.List.{List, [], ◌∷◌, ◌++◌, map}
 use Prim.Native.Nat.{ℕ, zero, suc, ◌+◌, ◌-◌, ◌≤◌, ◌<◌}
 use native.Mathlib.Nat.{not-suc-le-zero}
-use borrow.Author.Tests.{eqb-true, lt-ltb, le-ltb, ltb-true, ltb-false}
+use borrow.Author.Tests.{eqb-true, ltb-true, ltb-false}
 use lib.Dec.{eqb}
-use lib.ListN.{length, take, get_or, set, length-take, length-set}
-use lib.Seq.{length-take-le, take-suc, take-suc-set}
+use lib.ListN.{length, take, get_or, length-take}
+use lib.Seq.{length-take-le, take-suc}
 use native.Mathlib.Numerals.{add-one}
 use Rattle.paper.specs.Lists.{all, keep, insert_all}
 use Rattle.paper.specs.Keys.{Bytes, cmp_version}
@@ -133,22 +133,6 @@ built s cs g r l a o gt od =
     same i = rest-same s (cursors_of r) (cursors_of g) i (λ f. sym (od.bag.weighs (of_run i f))) ∙ ap (λ (l : List Cursor). rest s l i) gt.kept
 
 -- ---- the steps of the code
-pub pushed-yes : (g : Heap) (c : Cursor) → g.len < length g.cursors → c.at < c.end → Pushed g c (record { cursors = set g.cursors g.len c; len = g.len + 1 })
-pushed-yes g c h u =
-    record {
-      few = omega arith;
-      long = rw length-set (omega arith);
-      put = rw add-one (take-suc-set g.cursors g.len c h ∙ ap (λ (b : Bool). take g.len g.cursors ++ cond b (c ∷ []) []) (sym (lt-ltb c.at c.end u)));
-    }
-
-pub pushed-no : (g : Heap) (c : Cursor) → g.len ≤ length g.cursors → c.end ≤ c.at → Pushed g c g
-pushed-no g c h u =
-    record {
-      few = omega arith;
-      long = h;
-      put = sym (ap (λ (b : Bool). take g.len g.cursors ++ cond b (c ∷ []) []) (le-ltb c.at c.end u) ∙ append-nil (take g.len g.cursors));
-    }
-
 pub gathered-on : (cs : List Cursor) (i : ℕ) (g r : Heap) → i < length cs → g.len ≤ i → cursors_of g ≡ keep unfinished (take i cs) → Pushed g (get_or cs i nowhere) r
     → (r.len ≤ i + 1) × (r.len ≤ length r.cursors) × (cursors_of r ≡ keep unfinished (take (i + 1) cs))
 gathered-on cs i g r h l e p = (

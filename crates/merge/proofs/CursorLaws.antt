@@ -1,13 +1,19 @@
 -- What a cursor over the records of a run has left: its first version, and what is left after it.
 -- Assumes nothing.
-use mathlib.Core.Path.{◌≡◌}
-use mathlib.Core.Bool.{true, ◌&&◌}
+use mathlib.Core.Path.{◌≡◌, refl, ap, ap₂, ◌∙◌}
+use mathlib.Core.Bool.{Bool, true, ◌&&◌}
 use mathlib.Core.List.{◌∷◌}
 use Prim.Native.Nat.{◌-◌, ◌≤◌, ◌<◌}
 use borrow.Author.Tests.{leb-true, ltb-true, le-leb, lt-ltb}
 use lib.Dec.{leb, ltb}
+use Rattle.std.specs.Bool.{◌==◌}
+use Rattle.std.specs.Ordering.{nat_cmp, ordering_then, ordering_index}
+use Rattle.std.specs.declared.cmp.Ordering.{Ordering}
+use Rattle.std.specs.declared.cmp.Ordering.TheVariants.{Less, Equal, Greater}
+use Rattle.raw.specs.Orders.{ordering}
+use Rattle.raw.proofs.Comparing.{compare-numbers, ordering-then}
 use lib.ListN.{length, drop}
-use Rattle.paper.specs.Lists.{is_some}
+use Rattle.paper.specs.Lists.{is_some, is_lt, then_by}
 use Rattle.paper.specs.Keys.{Bytes, cmp_version}
 use Rattle.paper.specs.Runs.{is_run}
 use Rattle.paper.specs.Image.{record_bytes, one_record, storable}
@@ -18,7 +24,7 @@ use Rattle.key.specs.Places.{Placed}
 use Rattle.key.specs.declared.Place.{Place}
 use Rattle.key.proofs.Packing.{First}
 use Rattle.key.proofs.Packed as key
-use Rattle.merge.specs.Cursors.{lawful, live, left}
+use Rattle.merge.specs.Cursors.{lawful, live, left, bef}
 use Rattle.merge.specs.declared.heap.Cursor.{Cursor}
 
 -- ---- the tests, taken apart
@@ -87,3 +93,16 @@ module _ (s : Bytes) (c : Cursor) (p : Place) (h : live s c ≡ true) (at : Plac
 -- what is left of a lawful cursor is a run
 pub left-run : (s : Bytes) (c : Cursor) → lawful s c ≡ true → is_run (left s c) ≡ true
 left-run s c h = (key.packed-run (part s c.at (c.end - c.at)) (lawful-is s c h).whole).1
+
+-- ---- the order of cursors, by std's comparisons
+-- an answer is `Less` where the paper's is
+less_is : (o : Ordering) → ordering_index o == 0 ≡ is_lt (ordering o)
+less_is Less = refl
+less_is Equal = refl
+less_is Greater = refl
+
+pub before_is : (s : Bytes) (a b : Cursor) (versions runs : Ordering) (r : Bool) → ordering versions ≡ cmp_version (version_at s a.at) (version_at s b.at) → runs ≡ nat_cmp a.run b.run
+    → r ≡ (ordering_index (ordering_then versions runs) == 0) → r ≡ bef s a b
+unfolding bef
+before_is s a b versions runs r v n e =
+    e ∙ less_is (ordering_then versions runs) ∙ ap is_lt (ordering-then versions runs ∙ ap₂ then_by v (ap ordering n ∙ compare-numbers a.run b.run))

@@ -23,7 +23,7 @@ use Rattle.merge.specs.declared.heap.Cursor.{Cursor}
 use Rattle.merge.specs.declared.heap.Heap.{Heap}
 use Rattle.key.specs.declared.Place.{Place}
 use Rattle.merge.proofs.Rank.{le_refl, le_trans}
-use Rattle.merge.proofs.HeapLaws.{root}
+use Rattle.merge.proofs.HeapLaws.{root, one_more}
 use Rattle.merge.proofs.CursorLaws.{foremost, live-is, is_live, is_lawful, onward, onward-order, onward-lawful, left_step, left-run}
 use Rattle.key.proofs.Packed.{versions-nil}
 use Rattle.merge.proofs.Weights.{all-at, all-bag, bad, not-bad, weightless, all-weightless}
@@ -164,3 +164,13 @@ settled s h g r a e w =
 
     same : (i : ℕ) → rest s (cursors_of r) i ≡ rest s (cursors_of g) i
     same i = rest-same s (cursors_of r) (cursors_of g) i (λ f. sym (bags.weighs (of_run i f)))
+
+-- a heap from k on, whose cursor at k - 1 is sifted down, is one from there on
+pub sifted : (s : Bytes) (g r : Heap) (k : ℕ) → 0 < k → r.len ≡ g.len → Sifted (bef s) nowhere g.cursors r.cursors g.len (k - 1) → HeapFrom (bef s) nowhere g.cursors g.len k
+    → HeapFrom (bef s) nowhere r.cursors r.len (k - 1) × SameBag (cursors_of g) (cursors_of r)
+sifted s g r k p e w hp =
+    let q : k ≡ k - 1 + 1 = omega arith in (
+      subst (λ (n : ℕ). HeapFrom (bef s) nowhere r.cursors n (k - 1)) (sym e)
+          (w.heap (k - 1) (one_more (bef s) nowhere g.cursors g.len (k - 1) (subst (λ (i : ℕ). HeapFrom (bef s) nowhere g.cursors g.len i) q hp))),
+      subst (λ (n : ℕ). SameBag (cursors_of g) (take n r.cursors)) (sym e) w.bag,
+    )

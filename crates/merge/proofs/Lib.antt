@@ -1,6 +1,6 @@
 pub mod CursorLaws
-pub mod Deep
 pub mod HeapLaws
+pub mod Sinking
 pub mod Rank
 pub mod Weights
 pub mod KeepLaws

@@ -1,63 +1,56 @@
 // Building: the cursors that have versions left are gathered, and each is put in its place, from the last.
-ghost use Rattle.std.specs.Prelude.{◌≡◌, true, ◌≤◌, ◌<◌, length, take};
+ghost use Rattle.std.specs.Prelude.{◌≡◌, true, ◌≤◌, ◌<◌, length};
 ghost use Rattle.paper.specs.Lists.{all};
 ghost use Rattle.merge.specs.Cursors.{lawful, live, in_order};
 ghost use Rattle.merge.specs.Unread.{cursors_of};
 ghost use Rattle.merge.specs.Building.{Pushed, Gathered, Ordered, Built};
 
-use super::heap::{Cursor, Heap};
+use super::heap::{Cursor, Heap, MOST_RUNS};
 
-// The cursor put last, if it has versions left.
-fn pushed(g: Heap, c: Cursor) -> Heap
-    requires { g.len < 17 }
-    ensures { Pushed g c result }
-{
-    if c.at < c.end {
-        let mut r = g;
-        let k = g.len;
-        r.cursors[k] = c;
-        r.len = k + 1;
-        return r;
+impl Heap {
+    // Puts the cursor last, if it has versions left.
+    fn push(&mut self, c: Cursor)
+        requires { self.old.len < 17 }
+        ensures { Pushed self.old c self.new }
+    {
+        if c.at < c.end {
+            self.cursors[self.len] = c;
+            self.len += 1;
+        }
     }
-    g
-}
 
-// The cursors that have versions left, in the order given.
-fn gather(cursors: [Cursor; 17], n: usize) -> Heap
-    requires { n ≤ 17 }
-    ensures { Gathered (take n cursors) result }
-{
-    let mut g = Heap {
-        cursors: cursors,
-        len: 0,
-    };
-    let mut i = 0;
-    while i < n {
-        let c = cursors[i];
-        g = pushed(g, c);
-        i += 1;
+    // The cursors that have versions left, in the order given.
+    fn gather(cursors: &[Cursor]) -> Heap
+        requires { length cursors.now ≤ 17 }
+        ensures { Gathered cursors.now result }
+    {
+        let mut heap = Heap {
+            cursors: [Cursor::NOWHERE; MOST_RUNS],
+            len: 0,
+        };
+        for c in cursors {
+            heap.push(*c);
+        }
+        heap
     }
-    g
-}
 
-// Puts the cursors in their places, from the last.
-fn heapify(s: &[u8], h: Heap) -> Heap
-    requires { (h.len ≤ 17) × (h.len ≤ length h.cursors) × (all (live s.now) (cursors_of h) ≡ true) }
-    ensures { Ordered s.now h result }
-{
-    let mut g = h;
-    let mut k = h.len;
-    while 0 < k {
-        k -= 1;
-        g = super::heap::sift_down(s, g, k, 5);
+    // Puts the cursors in their places, from the last.
+    fn order(&mut self, s: &[u8])
+        requires { all (live s.now) (cursors_of self.old) ≡ true }
+        ensures { Ordered s.now self.old self.new }
+    {
+        for at in (0..self.len).rev() {
+            self.sift_down(s, at);
+        }
     }
-    g
-}
 
-// The heap of n cursors, those of the runs in run order.
-pub fn heap_of(s: &[u8], cursors: [Cursor; 17], n: usize) -> Heap
-    requires { (n ≤ 17) × (all (lawful s.now) (take n cursors) ≡ true) × (in_order 0 (take n cursors) ≡ true) }
-    ensures { Built s.now (take n cursors) result }
-{
-    heapify(s, gather(cursors, n))
+    // The heap of some cursors, those of the runs in run order.
+    pub fn of(s: &[u8], cursors: &[Cursor]) -> Heap
+        requires { (length cursors.now ≤ 17) × (all (lawful s.now) cursors.now ≡ true) × (in_order 0 cursors.now ≡ true) }
+        ensures { Built s.now cursors.now result }
+    {
+        let mut heap = Heap::gather(cursors);
+        heap.order(s);
+        heap
+    }
 }

@@ -30,25 +30,25 @@ sound-set : (clock : ℕ) (c : Commit) → sound_commit clock c ≡ true → is_
 unfolding sound_commit
 sound-set clock c e = and_right (leb c.number clock) (is_set c.hashes) e
 
-module _ (s : Bytes) (at end entries hashes clock : ℕ) (h : sound_read entries hashes clock (history_read s at end) ≡ true) where
-  -- the bytes read as the history between them
-  pub checked-reads : history_read s at end ≡ some (history_in s at end)
+module _ (b : Bytes) (entries hashes clock : ℕ) (h : sound_read entries hashes clock (history_read b) ≡ true) where
+  -- the bytes read as the history in them
+  pub checked-reads : history_read b ≡ some (history_in b)
   unfolding history_in
-  checked-reads = go (history_read s at end) h
+  checked-reads = go (history_read b) h
     where
       go : (o : Option (List Commit)) → sound_read entries hashes clock o ≡ true → o ≡ some (or_empty o)
       go none e = absurd (let z : ◌≡◌ {A = ℕ} 0 1 = cc in omega arith)
       go (some cs) e = refl
 
   -- it keeps the rules
-  pub checked-rules : hold_all (history_rules (limits entries hashes) clock (history_in s at end)) ≡ true
+  pub checked-rules : hold_all (history_rules (limits entries hashes) clock (history_in b)) ≡ true
   checked-rules = sym (ap (sound_read entries hashes clock) checked-reads) ∙ h
 
   -- and is in order, as those that walk over it require
-  pub checked-order : is_history s at end ≡ true
+  pub checked-order : is_history b ≡ true
   unfolding is_history history_rules
   checked-order =
-      let cs : List Commit = history_in s at end in
+      let cs : List Commit = history_in b in
       let r : List Bool = history_rules (limits entries hashes) clock cs in
       ap in_order checked-reads
       ∙ and_intro (rule 0 r checked-rules) (all-mono (sound_commit clock) (λ c. is_set c.hashes) (sound-set clock) cs (rule 1 r checked-rules))

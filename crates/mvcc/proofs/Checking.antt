@@ -2,34 +2,27 @@
 -- Assumes nothing.
 use Prim.Native.Nat.{ℕ, zero, suc, ◌+◌, ◌-◌, ◌≤◌, ◌<◌, compare}
 use native.Mathlib.Omega.{arith}
-use native.Mathlib.Nat.{not-suc-le-zero}
 use mathlib.Core.Path.{◌≡◌, refl, sym, ap, ap₂, ◌∙◌}
 use mathlib.Core.Bool.{Bool, true, false, cond, ◌&&◌}
 use mathlib.Core.List.{List, [], ◌∷◌}
 use mathlib.Core.Option.{Option, none, some}
-use lib.ListN.{length, drop, get_or, length-drop}
+use lib.ListN.{length, get_or}
 use lib.Dec.{leb, ltb}
 use borrow.Author.Tests.{le-leb, lt-leb, leb-true, leb-false}
+use Rattle.std.specs.Prelude.{Option as Answer, Some, None}
+use Rattle.std.specs.Option.{MatchOption}
 use Rattle.paper.specs.Lists.{is_lt, all, total, rises_from, rises, hold_all}
-use Rattle.paper.specs.Keys.{Bytes, octets}
+use Rattle.paper.specs.Keys.{Bytes}
 use Rattle.paper.specs.History.{Commit, make_commit, cmp_commit}
 use Rattle.paper.specs.Store.{hash_count}
-use Rattle.paper.specs.Sound.{is_set, is_hash, sound_commit, history_rules}
-use Rattle.paper.proofs.Bools.{and_left, and_right, and_intro}
-use Rattle.paper.proofs.Alls.{rule}
-use Rattle.raw.specs.Bytes.{part}
+use Rattle.paper.specs.Sound.{is_set, sound_commit, history_rules}
+use Rattle.paper.proofs.Bools.{and_intro}
 use Rattle.raw.proofs.Comparing.{less-than}
-use Rattle.raw.proofs.Parts.{length_part}
-use Rattle.raw.proofs.Octets.{octets-drop}
-use Rattle.layout.specs.Codec.{many, get_all, further, cons_of}
+use Rattle.layout.specs.Codec.{cons_of}
 use Rattle.layout.specs.Layout.{commit_stream}
-use Rattle.sets.specs.Sets.{hashes_in}
-use Rattle.sets.proofs.Hashes.{length-hashes, all-hashes}
-use Rattle.sets.proofs.Risings.{pos}
-use Rattle.mvcc.specs.Histories.{history_read, sound_read, entered, Told, commit_read, may_follow, follows, left_rules, allowed, left_after}
-use Rattle.mvcc.specs.declared.Entry.{Entry}
-use Rattle.mvcc.specs.declared.Entry.TheVariants.{Whole, Cut}
+use Rattle.mvcc.specs.Histories.{history_read, sound_read, follows, left_rules, left_behind, left_after}
 use Rattle.mvcc.specs.declared.Left.{Left}
+use Rattle.mvcc.proofs.Reading.{history-empty, history-step, history_cut}
 
 -- ---- lists of rules
 
@@ -80,16 +73,10 @@ unfolding rises_from cmp_commit
 same_number c [] = refl
 same_number c (d ∷ cs) = refl
 
-follow-on : (l : Left) (c : Commit) (cs : List Commit) (count : ℕ) → follows l (c ∷ cs) ≡ follows l (c ∷ []) && follows (left_after l c.number count) cs
+follow-on : (last : Answer ℕ) (c : Commit) (cs : List Commit) → follows last (c ∷ cs) ≡ follows last (c ∷ []) && follows (Some c.number) cs
 unfolding rises rises_from
-follow-on l c cs count = go l.first
-  where
-    before : Commit
-    before = make_commit l.last []
-
-    go : (b : Bool) → cond b (rises cmp_commit (c ∷ cs)) (rises_from cmp_commit before (c ∷ cs)) ≡ cond b (rises cmp_commit (c ∷ [])) (rises_from cmp_commit before (c ∷ [])) && rises_from cmp_commit (make_commit c.number []) cs
-    go true = same_number c cs
-    go false = ap₂ (λ (a b : Bool). a && b) (and-true (is_lt (cmp_commit before c))) (same_number c cs)
+follow-on None c cs = same_number c cs
+follow-on (Some n) c cs = ap₂ (λ (a b : Bool). a && b) (and-true (is_lt (cmp_commit (make_commit n []) c))) (same_number c cs)
 
 sound-on : (clock : ℕ) (c : Commit) (cs : List Commit) → all (sound_commit clock) (c ∷ cs) ≡ all (sound_commit clock) (c ∷ []) && all (sound_commit clock) cs
 unfolding all
@@ -113,13 +100,13 @@ hashes-on c cs k =
     less-on (length c.hashes) (hash_count cs) k ∙ ap (λ (n : ℕ). leb n k && leb (hash_count cs) (k - length c.hashes)) e
 
 rules-on : (l : Left) (clock : ℕ) (c : Commit) (cs : List Commit)
-    → hold_all (left_rules l clock (c ∷ cs)) ≡ hold_all (left_rules l clock (c ∷ [])) && hold_all (left_rules (left_after l c.number (length c.hashes)) clock cs)
+    → hold_all (left_rules l clock (c ∷ cs)) ≡ hold_all (left_rules l clock (c ∷ [])) && hold_all (left_rules (left_behind l c) clock cs)
 unfolding left_rules
 rules-on l clock c cs =
-    let m : Left = left_after l c.number (length c.hashes) in
-    ap hold_all (four (follow-on l c cs (length c.hashes)) (sound-on clock c cs) (entries-on c cs l.entries) (hashes-on c cs l.hashes))
+    let m : Left = left_behind l c in
+    ap hold_all (four (follow-on l.last c cs) (sound-on clock c cs) (entries-on c cs l.entries) (hashes-on c cs l.hashes))
     ∙ pairs-hold
-    ((follows l (c ∷ []), follows m cs) ∷ (all (sound_commit clock) (c ∷ []), all (sound_commit clock) cs)
+    ((follows l.last (c ∷ []), follows m.last cs) ∷ (all (sound_commit clock) (c ∷ []), all (sound_commit clock) cs)
     ∷ (leb (length (c ∷ [])) l.entries, leb (length cs) m.entries) ∷ (leb (hash_count (c ∷ [])) l.hashes, leb (hash_count cs) m.hashes) ∷ [])
   where
     four : {a b c d w x y z : Bool} → a ≡ w → b ≡ x → c ≡ y → d ≡ z → a ∷ b ∷ c ∷ d ∷ [] ≡ w ∷ x ∷ y ∷ z ∷ []
@@ -132,7 +119,7 @@ left_read l clock none = false
 left_read l clock (some cs) = hold_all (left_rules l clock cs)
 
 abbrev pub all_left : ℕ → ℕ → Left
-all_left entries hashes = record { first = true; last = 0; entries = entries; hashes = hashes }
+all_left entries hashes = record { last = None; entries = entries; hashes = hashes }
 
 read-start : (entries hashes clock : ℕ) (o : Option (List Commit)) → sound_read entries hashes clock o ≡ left_read (all_left entries hashes) clock o
 unfolding left_rules history_rules
@@ -140,7 +127,7 @@ read-start entries hashes clock none = refl
 read-start entries hashes clock (some cs) = refl
 
 read-on : (l : Left) (clock : ℕ) (c : Commit) (o : Option (List Commit))
-    → left_read l clock (cons_of (some c) o) ≡ hold_all (left_rules l clock (c ∷ [])) && left_read (left_after l c.number (length c.hashes)) clock o
+    → left_read l clock (cons_of (some c) o) ≡ hold_all (left_rules l clock (c ∷ [])) && left_read (left_behind l c) clock o
 read-on l clock c none = go (hold_all (left_rules l clock (c ∷ [])))
   where
     go : (b : Bool) → false ≡ b && false
@@ -150,191 +137,107 @@ read-on l clock c (some cs) = rules-on l clock c cs
 
 read_none : (l : Left) (clock : ℕ) → left_read l clock (some []) ≡ true
 unfolding left_rules hold_all rises rises_from all hash_count total
-read_none l clock = and_intro (go l.first) (and_intro refl (and_intro (le-leb 0 l.entries (omega arith)) (and_intro (le-leb 0 l.hashes (omega arith)) refl)))
+read_none l clock = and_intro (go l.last) (and_intro refl (and_intro (le-leb 0 l.entries (omega arith)) (and_intro (le-leb 0 l.hashes (omega arith)) refl)))
   where
-    go : (b : Bool) → cond b true true ≡ true
-    go true = refl
-    go false = refl
+    go : (o : Answer ℕ) → follows o [] ≡ true
+    go None = refl
+    go (Some n) = refl
 
--- ---- an entry that is allowed
+-- ---- the tests of an entry
+module _ (l : Left) (clock : ℕ) (c : Commit) where
+  abbrev one : Bool
+  one = hold_all (left_rules l clock (c ∷ []))
 
-same_some : (a b : Commit × Bytes) → some a ≡ some b → a ≡ b
-same_some a b e = cc
+  -- 'history strictly rising': the one test of its number
+  pub follow-test : (last : Answer ℕ) (r : Bool) → MatchOption last (r ≡ true) (λ n. r ≡ ltb n c.number) → r ≡ follows last (c ∷ [])
+  unfolding rises rises_from cmp_commit
+  follow-test None r e = e
+  follow-test (Some n) r e = e ∙ less-than n c.number ∙ and-true (is_lt (compare n c.number))
 
-allowed-is : (l : Left) (clock : ℕ) (o : Option (Commit × Bytes)) (p : Commit × Bytes) → some p ≡ allowed l clock o → (o ≡ some p) × (hold_all (left_rules l clock (p.0 ∷ [])) ≡ true)
-allowed-is l clock none p e = absurd (let z : ◌≡◌ {A = ℕ} 0 1 = cc in omega arith)
-allowed-is l clock (some q) p e = go (hold_all (left_rules l clock (q.0 ∷ []))) refl e
+  refuse : one ≡ false → None ≡ left_after l clock c
+  unfolding left_after
+  refuse e = sym (ap (λ (b : Bool). cond b (Some (left_behind l c)) None) e)
+
+  pub out-of-turn : follows l.last (c ∷ []) ≡ false → None ≡ left_after l clock c
+  unfolding left_rules
+  out-of-turn e = refuse (rule-out 0 (left_rules l clock (c ∷ [])) e)
+
+  unsound : sound_commit clock c ≡ false → None ≡ left_after l clock c
+  unfolding left_rules all
+  unsound e = refuse (rule-out 1 (left_rules l clock (c ∷ [])) (ap (λ (t : Bool). t && true) e))
+
+  pub too_late : clock < c.number → None ≡ left_after l clock c
+  unfolding sound_commit
+  too_late h = unsound (ap (λ (t : Bool). t && is_set c.hashes) (lt-leb c.number clock h))
+
+  pub no-set : is_set c.hashes ≡ false → None ≡ left_after l clock c
+  unfolding sound_commit
+  no-set e = unsound (and_no (leb c.number clock) (is_set c.hashes) e)
+
+  pub too_many : (1 ≤ l.entries → ⊥) → None ≡ left_after l clock c
+  unfolding left_rules
+  too_many h = refuse (rule-out 2 (left_rules l clock (c ∷ [])) (lt-leb 1 l.entries (omega arith)))
+
+  pub too_large : (length c.hashes ≤ l.hashes → ⊥) → None ≡ left_after l clock c
+  unfolding left_rules hash_count total
+  too_large h = refuse (rule-out 3 (left_rules l clock (c ∷ [])) (lt-leb (length c.hashes + 0) l.hashes (omega arith)))
+
+  pub in-turn : follows l.last (c ∷ []) ≡ true → c.number ≤ clock → is_set c.hashes ≡ true → 1 ≤ l.entries → length c.hashes ≤ l.hashes → Some (left_behind l c) ≡ left_after l clock c
+  unfolding left_after left_rules hold_all all sound_commit hash_count total
+  in-turn f n s m k =
+      sym (ap (λ (b : Bool). cond b (Some (left_behind l c)) None)
+      (and_intro f
+      (and_intro (and_intro (and_intro (le-leb c.number clock n) s) refl)
+      (and_intro (le-leb 1 l.entries m) (and_intro (le-leb (length c.hashes + 0) l.hashes (omega arith)) refl)))))
+
+same_left : (a b : Left) → Some a ≡ Some b → a ≡ b
+same_left a b e = cc
+
+-- what is left says whether the commit keeps the rules
+kept : (l : Left) (clock : ℕ) (c : Commit) (m : Left) → Some m ≡ left_after l clock c → (hold_all (left_rules l clock (c ∷ [])) ≡ true) × (m ≡ left_behind l c)
+unfolding left_after
+kept l clock c m = go (hold_all (left_rules l clock (c ∷ [])))
   where
-    go : (b : Bool) → hold_all (left_rules l clock (q.0 ∷ [])) ≡ b → some p ≡ cond b (some q) none → (some q ≡ some p) × (hold_all (left_rules l clock (p.0 ∷ [])) ≡ true)
-    go true f e = (sym e, ap (λ (u : Commit × Bytes). hold_all (left_rules l clock (u.0 ∷ []))) (same_some p q e) ∙ f)
-    go false f e = absurd (let z : ◌≡◌ {A = ℕ} 0 1 = cc in omega arith)
+    go : (b : Bool) → Some m ≡ cond b (Some (left_behind l c)) None → (b ≡ true) × (m ≡ left_behind l c)
+    go true e = (refl, same_left m (left_behind l c) e)
+    go false e = absurd (let z : ◌≡◌ {A = ℕ} 0 1 = cc in omega arith)
 
-refused-is : (l : Left) (clock : ℕ) (p : Commit × Bytes) → none ≡ allowed l clock (some p) → hold_all (left_rules l clock (p.0 ∷ [])) ≡ false
-refused-is l clock p = go (hold_all (left_rules l clock (p.0 ∷ [])))
+not-kept : (l : Left) (clock : ℕ) (c : Commit) → None ≡ left_after l clock c → hold_all (left_rules l clock (c ∷ [])) ≡ false
+unfolding left_after
+not-kept l clock c = go (hold_all (left_rules l clock (c ∷ [])))
   where
-    go : (b : Bool) → none ≡ cond b (some p) none → b ≡ false
+    go : (b : Bool) → None ≡ cond b (Some (left_behind l c)) None → b ≡ false
     go true e = absurd (let z : ◌≡◌ {A = ℕ} 0 1 = cc in omega arith)
     go false e = refl
 
-room-left : (l : Left) (clock : ℕ) (c : Commit) → hold_all (left_rules l clock (c ∷ [])) ≡ true → (1 ≤ l.entries) × (length c.hashes ≤ l.hashes)
-unfolding left_rules hash_count total
-room-left l clock c h = (
-  leb-true 1 l.entries (rule 2 (left_rules l clock (c ∷ [])) h),
-  let k = leb-true (length c.hashes + 0) l.hashes (rule 3 (left_rules l clock (c ∷ [])) h) in omega arith,
-)
+-- ---- the pass: the history keeps the rules where the entries that are left keep what is left of them
 
--- the tests of an entry
-module _ (l : Left) (clock number : ℕ) (hs : List ℕ) where
-  abbrev one : Bool
-  one = hold_all (left_rules l clock (make_commit number hs ∷ []))
+abbrev pub Checking : Bytes → ℕ → ℕ → ℕ → Bytes → Left → Type 0
+Checking history clock entries hashes rest l = sound_read entries hashes clock (history_read history) ≡ left_read l clock (history_read rest)
 
-  out-of-turn : may_follow l clock number ≡ false → one ≡ false
-  unfolding left_rules all sound_commit rises rises_from cmp_commit
-  out-of-turn = go (leb number clock) refl
+pub check-start : (history : Bytes) (clock entries hashes : ℕ) → Checking history clock entries hashes history (all_left entries hashes)
+check-start history clock entries hashes = read-start entries hashes clock (history_read history)
+
+module _ (history : Bytes) (clock entries hashes : ℕ) (rest : Bytes) (l : Left) (C : Checking history clock entries hashes rest l) where
+  pub check-end : length rest ≡ 0 → true ≡ sound_read entries hashes clock (history_read history)
+  check-end e = sym (C ∙ ap (left_read l clock) (ap history_read (nothing rest e) ∙ history-empty) ∙ read_none l clock)
     where
-      late : (b : Bool) → cond b true (ltb l.last number) ≡ false → cond b true (is_lt (compare l.last number) && true) ≡ false
-      late true e = e
-      late false e = ap (λ (t : Bool). t && true) (sym (less-than l.last number) ∙ e)
+      nothing : (b : Bytes) → length b ≡ 0 → b ≡ []
+      nothing [] f = refl
+      nothing (x ∷ b) f = absurd (omega arith)
 
-      go : (b : Bool) → leb number clock ≡ b → b && cond l.first true (ltb l.last number) ≡ false → one ≡ false
-      go true f e = rule-out 0 (left_rules l clock (make_commit number hs ∷ [])) (late l.first e)
-      go false f e = rule-out 1 (left_rules l clock (make_commit number hs ∷ [])) (ap (λ (t : Bool). (t && is_set hs) && true) f)
+  pub check_cut : (length rest ≡ 0 → ⊥) → commit_stream.get rest ≡ none → false ≡ sound_read entries hashes clock (history_read history)
+  check_cut n e = sym (C ∙ ap (left_read l clock) (history_cut rest (omega arith) e))
 
-  too_many : l.entries ≡ 0 → one ≡ false
-  unfolding left_rules
-  too_many e = rule-out 2 (left_rules l clock (make_commit number hs ∷ [])) (lt-leb 1 l.entries (omega arith))
+  module _ (c : Commit) (behind : Bytes) (e : commit_stream.get rest ≡ some (c, behind)) where
+    turn : sound_read entries hashes clock (history_read history) ≡ hold_all (left_rules l clock (c ∷ [])) && left_read (left_behind l c) clock (history_read behind)
+    turn = C ∙ ap (left_read l clock) (history-step rest c behind e) ∙ read-on l clock c (history_read behind)
 
-  too_large : l.hashes < length hs → one ≡ false
-  unfolding left_rules hash_count total
-  too_large h = rule-out 3 (left_rules l clock (make_commit number hs ∷ [])) (lt-leb (length hs + 0) l.hashes (omega arith))
+    pub check-wrong : None ≡ left_after l clock c → false ≡ sound_read entries hashes clock (history_read history)
+    check-wrong f = sym (turn ∙ ap (λ (b : Bool). b && left_read (left_behind l c) clock (history_read behind)) (not-kept l clock c f))
 
-  no-set : rises compare hs ≡ false → one ≡ false
-  unfolding left_rules all sound_commit is_set
-  no-set e = rule-out 1 (left_rules l clock (make_commit number hs ∷ [])) (ap (λ (t : Bool). t && true) (and_no (leb number clock) (rises compare hs && all is_hash hs) (ap (λ (t : Bool). t && all is_hash hs) e)))
-
-  in-turn : may_follow l clock number ≡ true → (l.entries ≡ 0 → ⊥) → length hs ≤ l.hashes → rises compare hs ≡ true → all is_hash hs ≡ true → one ≡ true
-  unfolding left_rules hold_all all sound_commit is_set rises rises_from cmp_commit hash_count total
-  in-turn m n k r a =
-      and_intro (early l.first (and_right (leb number clock) (cond l.first true (ltb l.last number)) m))
-      (and_intro (and_intro (and_intro (and_left (leb number clock) (cond l.first true (ltb l.last number)) m) (and_intro r a)) refl)
-      (and_intro (le-leb 1 l.entries (pos l.entries n)) (and_intro (le-leb (length hs + 0) l.hashes (omega arith)) refl)))
-    where
-      early : (b : Bool) → cond b true (ltb l.last number) ≡ true → cond b true (is_lt (compare l.last number) && true) ≡ true
-      early true e = e
-      early false e = and_intro (sym (less-than l.last number) ∙ e) refl
-
--- what the tests say of an entry that was read
-module _ {s : Bytes} {at end number start count next : ℕ} {o : Option (Commit × Bytes)} (T : Told s at end o (Whole number start count next)) (l : Left) (clock : ℕ) where
-  abbrev hashes-here : List ℕ
-  hashes-here = hashes_in s start count
-
-  refuse : hold_all (left_rules l clock (make_commit number hashes-here ∷ [])) ≡ false → Told s at end (allowed l clock o) Cut
-  refuse f = record { says = sym (ap (allowed l clock) (sym T.says) ∙ ap (λ (b : Bool). cond b (entered s end (Whole number start count next)) none) f); lies = tt }
-
-  pub refuse-turn : may_follow l clock number ≡ false → Told s at end (allowed l clock o) Cut
-  refuse-turn f = refuse (out-of-turn l clock number hashes-here f)
-
-  pub refuse-many : l.entries ≡ 0 → Told s at end (allowed l clock o) Cut
-  refuse-many f = refuse (too_many l clock number hashes-here f)
-
-  pub refuse-large : l.hashes < count → Told s at end (allowed l clock o) Cut
-  refuse-large f = refuse (too_large l clock number hashes-here (rw length-hashes f))
-
-  pub refuse-set : rises compare hashes-here ≡ false → Told s at end (allowed l clock o) Cut
-  refuse-set f = refuse (no-set l clock number hashes-here f)
-
-  pub allow : octets s ≡ true → end ≤ length s → may_follow l clock number ≡ true → (l.entries ≡ 0 → ⊥) → count ≤ l.hashes → rises compare hashes-here ≡ true
-      → Told s at end (allowed l clock o) (Whole number start count next)
-  allow u k m n h r =
-      let d : length (drop start s) ≡ length s - start = length-drop start s in
-      let i = T.lies in
-      let a = all-hashes count (drop start s) (octets-drop start s u) (omega arith) in
-      record {
-        says =
-            sym (ap (allowed l clock) (sym T.says)
-            ∙ ap (λ (b : Bool). cond b (entered s end (Whole number start count next)) none) (in-turn l clock number hashes-here m n (rw length-hashes h) r a));
-        lies = T.lies;
-      }
-
--- an answer that is no entry
-pub refuse-cut : {s : Bytes} {at end : ℕ} {o : Option (Commit × Bytes)} {r : Entry} → Told s at end o r → r ≡ Cut → (l : Left) (clock : ℕ) → Told s at end (allowed l clock o) Cut
-refuse-cut {s} {at} {end} T e l clock = record { says = ap (allowed l clock) (sym (ap (entered s end) e) ∙ T.says); lies = tt }
-
--- ---- reading on
-
-nothing_left : (n : ℕ) → get_all commit_stream n [] ≡ some []
-unfolding get_all
-nothing_left zero = refl
-nothing_left (suc n) = refl
-
-read-turn : (n : ℕ) (b : Bytes) → 0 < n → 0 < length b → get_all commit_stream n b ≡ further (λ r. get_all commit_stream (n - 1) r) (commit_stream.get b)
-unfolding get_all
-read-turn zero b h k = absurd (not-suc-le-zero h)
-read-turn (suc n) [] h k = absurd (not-suc-le-zero k)
-read-turn (suc n) (x ∷ b) h k = let e : n ≡ suc n - 1 = omega arith in ap (λ (m : ℕ). further (λ r. get_all commit_stream m r) (commit_stream.get (x ∷ b))) e
-
--- ---- the pass, at a place of a history
-
-pub record Checking (s : Bytes) (at end clock entries hashes : ℕ) (from : ℕ) (l : Left) : Type 0 where
-  pub inside : from ≤ end
-  pub fuel : ℕ
-  pub enough : end - from ≤ fuel
-  pub same : sound_read entries hashes clock (history_read s at end) ≡ left_read l clock (get_all commit_stream fuel (part s from (end - from)))
-
-pub check-start : (s : Bytes) (at end clock entries hashes : ℕ) → at ≤ end → end ≤ length s → Checking s at end clock entries hashes at (all_left entries hashes)
-unfolding many
-check-start s at end clock entries hashes h k =
-    let e : length (part s at (end - at)) ≡ end - at = length_part s at (end - at) (omega arith) in
-    record { inside = h; fuel = length (part s at (end - at)); enough = omega arith; same = read-start entries hashes clock (history_read s at end) }
-
-module _ {s : Bytes} {at end clock entries hashes from : ℕ} {l : Left} (C : Checking s at end clock entries hashes from l) (k : end ≤ length s) where
-  pub check-end : end ≤ from → true ≡ sound_read entries hashes clock (history_read s at end)
-  check-end h =
-      let e : end - from ≡ 0 = omega arith in
-      sym (C.same ∙ ap (λ (n : ℕ). left_read l clock (get_all commit_stream C.fuel (part s from n))) e
-      ∙ ap (left_read l clock) (nothing_left C.fuel) ∙ read_none l clock)
-
-  module _ (h : from < end) where
-    turn : sound_read entries hashes clock (history_read s at end) ≡ left_read l clock (further (λ r. get_all commit_stream (C.fuel - 1) r) (commit_read s from end))
-    turn =
-        let e : length (part s from (end - from)) ≡ end - from = length_part s from (end - from) (omega arith) in
-        let f = C.enough in
-        C.same ∙ ap (left_read l clock) (read-turn C.fuel (part s from (end - from)) (omega arith) (omega arith))
-
-    pub check-wrong : {r : Entry} → Told s from end (allowed l clock (commit_read s from end)) r → r ≡ Cut → false ≡ sound_read entries hashes clock (history_read s at end)
-    check-wrong T e = sym (turn ∙ go (commit_read s from end) (sym (ap (entered s end) e) ∙ T.says))
-      where
-        go : (o : Option (Commit × Bytes)) → none ≡ allowed l clock o → left_read l clock (further (λ r. get_all commit_stream (C.fuel - 1) r) o) ≡ false
-        go none f = refl
-        go (some p) f =
-            read-on l clock p.0 (get_all commit_stream (C.fuel - 1) p.1)
-            ∙ ap (λ (b : Bool). b && left_read (left_after l p.0.number (length p.0.hashes)) clock (get_all commit_stream (C.fuel - 1) p.1)) (refused-is l clock p f)
-
-    module _ {number start count next : ℕ} (T : Told s from end (allowed l clock (commit_read s from end)) (Whole number start count next)) where
-      here : (commit_read s from end ≡ entered s end (Whole number start count next)) × (hold_all (left_rules l clock (make_commit number (hashes_in s start count) ∷ [])) ≡ true)
-      here = allowed-is l clock (commit_read s from end) (make_commit number (hashes_in s start count), part s next (end - next)) T.says
-
-      pub check-room : (1 ≤ l.entries) × (count ≤ l.hashes)
-      check-room =
-          let r = room-left l clock (make_commit number (hashes_in s start count)) here.1 in
-          let n : length (hashes_in s start count) ≡ count = length-hashes count (drop start s) in
-          (r.0, omega arith)
-
-      pub check-on : Checking s at end clock entries hashes next (left_after l number count)
-      check-on =
-          let f = C.enough in
-          let i = T.lies in
-          let c : Commit = make_commit number (hashes_in s start count) in
-          let n : length (hashes_in s start count) ≡ count = length-hashes count (drop start s) in
-          let r : Bytes = part s next (end - next) in
-          record {
-            inside = omega arith;
-            fuel = C.fuel - 1;
-            enough = omega arith;
-            same =
-                turn
-                ∙ ap (λ (o : Option (Commit × Bytes)). left_read l clock (further (λ t. get_all commit_stream (C.fuel - 1) t) o)) here.0
-                ∙ read-on l clock c (get_all commit_stream (C.fuel - 1) r)
-                ∙ ap (λ (b : Bool). b && left_read (left_after l number (length (hashes_in s start count))) clock (get_all commit_stream (C.fuel - 1) r)) here.1
-                ∙ ap (λ (m : ℕ). left_read (left_after l number m) clock (get_all commit_stream (C.fuel - 1) r)) n;
-          }
+    pub check-on : (m : Left) → Some m ≡ left_after l clock c → Checking history clock entries hashes behind m
+    check-on m f =
+        let k = kept l clock c m f in
+        turn ∙ ap (λ (b : Bool). b && left_read (left_behind l c) clock (history_read behind)) k.0
+        ∙ ap (λ (x : Left). left_read x clock (history_read behind)) (sym k.1)

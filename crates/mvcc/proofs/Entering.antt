@@ -1,98 +1,60 @@
 -- The bytes of a history into which an entry has come: what stays moved to its start, and behind it number, size and hashes of the new one.
 -- Assumes nothing.
-use Prim.Native.Nat.{ℕ, ◌+◌, ◌*◌, ◌-◌, ◌≤◌}
+use Prim.Native.Nat.{ℕ, ◌+◌, ◌*◌, ◌/◌, ◌%◌, ◌≤◌}
 use native.Mathlib.Omega.{arith}
-use mathlib.Core.Path.{◌≡◌, refl, sym, ap, ap₂, ◌∙◌}
+use mathlib.Core.Path.{◌≡◌, sym, ap, ap₂, ◌∙◌}
 use mathlib.Core.Bool.{true}
 use mathlib.Core.List.{[], ◌∷◌, ◌++◌, append_assoc}
-use lib.ListN.{length, drop, length-append, length-drop}
+use lib.ListN.{length, length-append}
+use lib.Seq.{take_all}
 use Rattle.paper.specs.Lists.{is_some}
 use Rattle.paper.specs.Keys.{Bytes, octets}
 use Rattle.paper.specs.Image.{big_endian}
 use Rattle.paper.specs.History.{make_commit}
 use Rattle.paper.proofs.ImageLaws.{length-big_endian}
-use Rattle.raw.specs.Bytes.{part, over}
-use Rattle.raw.proofs.Parts.{length_part}
-use Rattle.raw.proofs.Over.{over-after, part-over-after}
-use Rattle.raw.proofs.Octets.{octets-drop}
+use Rattle.raw.specs.Bytes.{over}
+use Rattle.raw.proofs.Over.{over-after}
 use Rattle.layout.specs.Layout.{hashes}
-use Rattle.sets.specs.Sets.{hashes_in}
+use Rattle.sets.specs.Sets.{set_hashes}
 use Rattle.sets.proofs.Hashes.{form-hashes}
 use Rattle.mvcc.specs.Histories.{history_read, history_in, history_bytes}
 use Rattle.mvcc.proofs.Commits.{commit-put, history-last}
-use Rattle.mvcc.proofs.Entries.{walk_start}
+use Rattle.mvcc.proofs.Reading.{bytes-of}
 
--- two writes behind a first one, side by side, and a copy of bytes behind all of them
-module _ (l : Bytes) (at : ℕ) (x y z : Bytes) (from n : ℕ) (h : at + length x + length y + length z + n ≤ from) (k : from + n ≤ length l) where
-  one : Bytes
-  one = over l at x
+-- four writes side by side, from the start on
+four-writes : (l x y z w : Bytes) → length x + length y + length z + length w ≤ length l
+    → over (over (over (over l 0 x) (length x) y) (length x + length y) z) (length x + length y + length z) w ≡ over l 0 (x ++ (y ++ (z ++ w)))
+four-writes l x y z w h =
+    let i : length x ≡ 0 + length x = omega arith in
+    let j : length x + length y ≡ 0 + length (x ++ y) = omega (arith, length-append x y) in
+    let k : length x + length y + length z ≡ 0 + length ((x ++ y) ++ z) = omega (arith, length-append (x ++ y) z, length-append x y) in
+    ap (λ (t : Bytes). over (over t (length x + length y) z) (length x + length y + length z) w) (over-after l 0 x (omega arith) (length x) y i)
+    ∙ ap (λ (t : Bytes). over t (length x + length y + length z) w) (over-after l 0 (x ++ y) (omega arith) (length x + length y) z j)
+    ∙ over-after l 0 ((x ++ y) ++ z) (omega arith) (length x + length y + length z) w k
+    ∙ ap (over l 0) (append_assoc (x ++ y) z w ∙ append_assoc x y (z ++ w))
 
-  two : Bytes
-  unfolding one
-  two = over one (at + length x) y
+-- the bytes of what stays, which are some bytes that read, and of the new entry
+module _ (stays : Bytes) (o : octets stays ≡ true) (reads : is_some (history_read stays) ≡ true) (number : ℕ) (hs : Bytes) (p : octets hs ≡ true) (whole : length hs % 4 ≡ 0) where
+  abbrev pub after : Bytes
+  after = history_bytes (history_in stays ++ (make_commit number (set_hashes hs) ∷ []))
 
-  three : Bytes
-  unfolding two
-  three = over two (at + length x + length y) z
-
-  three-is : three ≡ over l at (x ++ (y ++ z))
-  unfolding one two three
-  three-is =
-      let e : at + length x + length y ≡ at + length (x ++ y) = omega (arith, length-append x y) in
-      ap (λ (t : Bytes). over t (at + length x + length y) z) (over-after l at x (omega arith) (at + length x) y refl)
-      ∙ over-after l at (x ++ y) (omega arith) (at + length x + length y) z e
-      ∙ ap (over l at) (append_assoc x y z)
-
-  -- what is copied stands where it stood
-  copied : part three from n ≡ part l from n
-  copied =
-      let e : length (x ++ (y ++ z)) ≡ length x + (length y + length z) = length-append x (y ++ z) ∙ ap (λ (m : ℕ). length x + m) (length-append y z) in
-      ap (λ (t : Bytes). part t from n) three-is ∙ part-over-after l at (x ++ (y ++ z)) (omega arith) from n (omega arith)
-
-  pub four-writes : over (over (over (over l at x) (at + length x) y) (at + length x + length y) z) (at + length x + length y + length z) (part (over (over (over l at x) (at + length x) y) (at + length x + length y) z) from n)
-      ≡ over l at (x ++ (y ++ (z ++ part l from n)))
-  unfolding one two three
-  four-writes =
-      let e : length (x ++ (y ++ z)) ≡ length x + (length y + length z) = length-append x (y ++ z) ∙ ap (λ (m : ℕ). length x + m) (length-append y z) in
-      let i : at + length x + length y + length z ≡ at + length (x ++ (y ++ z)) = omega arith in
-      ap (λ (u : Bytes). over three (at + length x + length y + length z) u) copied
-      ∙ ap (λ (t : Bytes). over t (at + length x + length y + length z) (part l from n)) three-is
-      ∙ over-after l at (x ++ (y ++ z)) (omega arith) (at + length x + length y + length z) (part l from n) i
-      ∙ ap (over l at) (append_assoc x (y ++ z) (part l from n) ∙ ap (λ (t : Bytes). x ++ t) (append_assoc y z (part l from n)))
-
--- the bytes of what stays and of the new entry
-module _ (s : Bytes) (o : octets s ≡ true) (cut end : ℕ) (to : cut ≤ end) (inside : end ≤ length s) (reads : is_some (history_read s cut end) ≡ true) (number from count : ℕ) (k : from + 4 * count ≤ length s) where
-  abbrev after : Bytes
-  after = history_bytes (history_in s cut end ++ (make_commit number (hashes_in s from count) ∷ []))
-
-  pub after_is : after ≡ part s cut (end - cut) ++ (big_endian 8 number ++ (big_endian 8 (4 * count) ++ part s from (4 * count)))
+  pub after_is : after ≡ stays ++ (big_endian 8 number ++ (big_endian 8 (length hs) ++ hs))
   after_is =
-      let d : length (drop from s) ≡ length s - from = length-drop from s in
-      let f : hashes.form (hashes_in s from count) ≡ part s from (4 * count) = form-hashes count (drop from s) (octets-drop from s o) (omega arith) in
-      let n : length (hashes.form (hashes_in s from count)) ≡ 4 * count = ap length f ∙ length_part s from (4 * count) k in
-      history-last (history_in s cut end) (make_commit number (hashes_in s from count))
-      ∙ ap₂ (λ (t u : Bytes). t ++ u) (sym (walk_start s cut end o to inside reads).bytes)
-      (commit-put number (hashes_in s from count) ∙ ap₂ (λ (m : ℕ) (u : Bytes). big_endian 8 number ++ (big_endian 8 m ++ u)) n f)
+      let m : 4 * (length hs / 4) ≡ length hs = omega arith in
+      let f : hashes.form (set_hashes hs) ≡ hs = form-hashes (length hs / 4) hs p (omega arith) ∙ take_all (4 * (length hs / 4)) hs (omega arith) in
+      history-last (history_in stays) (make_commit number (set_hashes hs))
+      ∙ ap₂ (λ (t u : Bytes). t ++ u) (sym (bytes-of stays o reads))
+      (commit-put number (set_hashes hs) ∙ ap₂ (λ (n : ℕ) (u : Bytes). big_endian 8 number ++ (big_endian 8 n ++ u)) (ap length f) f)
 
-  pub after-long : length after ≡ (end - cut) + 16 + 4 * count
-  after-long =
-      let a = length_part s cut (end - cut) (omega arith) in
-      let b = length_part s from (4 * count) k in
-      ap length after_is ∙ simp (length-append, length-big_endian) (omega arith)
+  pub after-long : length after ≡ length stays + 16 + length hs
+  after-long = ap length after_is ∙ simp (length-append, length-big_endian) (omega arith)
 
-  module _ (at : ℕ) (apart : at + (end - cut) + 16 + 4 * count ≤ from) where
-    pub entering : over (over (over (over s at (part s cut (end - cut))) (at + (end - cut)) (big_endian 8 number)) (at + (end - cut) + 8) (big_endian 8 (4 * count))) (at + (end - cut) + 16)
-        (part (over (over (over s at (part s cut (end - cut))) (at + (end - cut)) (big_endian 8 number)) (at + (end - cut) + 8) (big_endian 8 (4 * count))) from (4 * count))
-        ≡ over s at after
-    entering =
-        placed (part s cut (end - cut)) (big_endian 8 number) (big_endian 8 (4 * count)) (length_part s cut (end - cut) (omega arith)) (length-big_endian 8 number) (length-big_endian 8 (4 * count))
-        ∙ ap (over s at) (sym after_is)
-      where
-        placed : (x y z : Bytes) → length x ≡ end - cut → length y ≡ 8 → length z ≡ 8
-            → over (over (over (over s at x) (at + (end - cut)) y) (at + (end - cut) + 8) z) (at + (end - cut) + 16) (part (over (over (over s at x) (at + (end - cut)) y) (at + (end - cut) + 8) z) from (4 * count))
-            ≡ over s at (x ++ (y ++ (z ++ part s from (4 * count))))
-        placed x y z lx ly lz =
-            let i : at + (end - cut) ≡ at + length x = omega arith in
-            let j : at + (end - cut) + 8 ≡ at + length x + length y = omega arith in
-            let m : at + (end - cut) + 16 ≡ at + length x + length y + length z = omega arith in
-            rw (m, j, i) (four-writes s at x y z from (4 * count) (omega arith) k)
+  pub entering : (room : Bytes) (kept : ℕ) → kept ≡ length stays → kept + 16 + length hs ≤ length room
+      → over (over (over (over room 0 stays) kept (big_endian 8 number)) (kept + 8) (big_endian 8 (length hs))) (kept + 16) hs ≡ over room 0 after
+  entering room kept e h = placed (big_endian 8 number) (big_endian 8 (length hs)) (length-big_endian 8 number) (length-big_endian 8 (length hs)) ∙ ap (over room 0) (sym after_is)
+    where
+      placed : (y z : Bytes) → length y ≡ 8 → length z ≡ 8 → over (over (over (over room 0 stays) kept y) (kept + 8) z) (kept + 16) hs ≡ over room 0 (stays ++ (y ++ (z ++ hs)))
+      placed y z ly lz =
+          let i : kept + 8 ≡ length stays + length y = omega arith in
+          let j : kept + 16 ≡ length stays + length y + length z = omega arith in
+          rw (j, i, e) (four-writes room stays y z hs (omega arith))

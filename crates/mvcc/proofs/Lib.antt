@@ -1,5 +1,5 @@
 pub mod Commits
-pub mod Entries
+pub mod Reading
 pub mod Checking
 pub mod Opposing
 pub mod Pruning

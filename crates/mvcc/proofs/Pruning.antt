@@ -5,25 +5,22 @@ use native.Mathlib.Omega.{arith}
 use mathlib.Core.Path.{◌≡◌, refl, sym, ap, ap₂, ◌∙◌}
 use mathlib.Core.Bool.{Bool, true, false, ◌&&◌}
 use mathlib.Core.List.{List, [], ◌∷◌, ◌++◌}
-use mathlib.Core.Option.{some}
-use lib.ListN.{length, drop, replicate, length-append, length-replicate}
+use mathlib.Core.Option.{none, some}
+use lib.ListN.{length, drop, replicate, length-append, length-drop, length-replicate}
+use lib.Seq.{drop-drop}
 use lib.Dec.{leb, ltb}
 use borrow.Author.Tests.{leb-true, leb-false, le-leb, lt-leb, lt-ltb, le-ltb}
 use Rattle.paper.specs.Lists.{keep, is_lt, is_some, total, rises_from, rises}
-use Rattle.paper.specs.Keys.{Bytes, octets}
+use Rattle.paper.specs.Keys.{Bytes}
 use Rattle.paper.specs.History.{Commit, make_commit, cmp_commit, prune}
 use Rattle.paper.specs.Store.{hash_count}
 use Rattle.paper.specs.Room.{history_fits}
 use Rattle.paper.proofs.Bools.{and_left, and_right, is_lt-lt}
 use Rattle.paper.proofs.Order.{IsOrder, compare-order, compare-lt, through-order}
 use Rattle.paper.proofs.Rising.{rises-of}
-use Rattle.raw.specs.Bytes.{part}
-use Rattle.raw.proofs.Parts.{length_part}
-use Rattle.sets.specs.Sets.{hashes_in}
-use Rattle.sets.proofs.Hashes.{length-hashes}
-use Rattle.mvcc.specs.Histories.{history_read, or_empty, history_in, is_history, history_bytes, limits, Told, commit_read, CutAt}
-use Rattle.mvcc.specs.declared.Entry.TheVariants.{Whole}
-use Rattle.mvcc.proofs.Entries.{Walk, Step, walk_start, walk-reads, walk_end, walk_step, ordered}
+use Rattle.layout.specs.Layout.{commit_stream}
+use Rattle.mvcc.specs.Histories.{history_read, history_in, is_history, limits, CutAt}
+use Rattle.mvcc.proofs.Reading.{Step, front, history-on, history-end, reads_in, history-is, history-size, ordered}
 
 -- ---- what stays is a suffix
 
@@ -79,107 +76,83 @@ prune-suffix w (c ∷ cs) r = go (leb w c.number) refl (prune-suffix w cs (rises
 
 -- ---- the walk to what stays
 
-pub record Cutting (s : Bytes) (at end watermark from : ℕ) : Type 0 where
+-- the entries that are left begin in the history, and what stays of the history is what stays of them
+pub record Cutting (history : Bytes) (watermark : ℕ) (left : Bytes) : Type 0 where
   pub cs : List Commit
-  pub reached : at ≤ from
-  pub walk : Walk s from end cs
+  pub short : length left ≤ length history
+  pub here : left ≡ drop (length history - length left) history
+  pub reads : history_read left ≡ some cs
   pub rise : rises cmp_commit cs ≡ true
-  pub same : prune watermark (history_in s at end) ≡ prune watermark cs
+  pub same : prune watermark (history_in history) ≡ prune watermark cs
 
-pub cut-start : (s : Bytes) (at end watermark : ℕ) → octets s ≡ true → at ≤ end → end ≤ length s → is_history s at end ≡ true → Cutting s at end watermark at
-cut-start s at end watermark o h k i =
-    let d = ordered s at end i in
-    record { cs = history_in s at end; reached = omega arith; walk = walk_start s at end o h k d.reads; rise = d.rise; same = refl }
+pub cut-start : (history : Bytes) (watermark : ℕ) → is_history history ≡ true → Cutting history watermark history
+cut-start history watermark i =
+    let d = ordered history i in
+    let e : 0 ≡ length history - length history = omega arith in
+    record {
+      cs = history_in history;
+      short = omega arith;
+      here = ap (λ (k : ℕ). drop k history) e;
+      reads = reads_in history d.reads;
+      rise = d.rise;
+      same = refl;
+    }
 
-module _ {s : Bytes} {at end watermark from : ℕ} (C : Cutting s at end watermark from) where
+module _ {history : Bytes} {watermark : ℕ} {left : Bytes} (C : Cutting history watermark left) where
   -- where nothing more leaves
-  cut-here : C.cs ≡ prune watermark C.cs → CutAt s at end watermark from
-  cut-here e = record { from = C.reached; to = C.walk.from; stays = walk-reads C.walk ∙ ap some (e ∙ sym C.same) }
+  cut-here : C.cs ≡ prune watermark C.cs → CutAt history watermark (length history - length left)
+  cut-here e = record { to = omega arith; stays = ap history_read (sym C.here) ∙ C.reads ∙ ap some (e ∙ sym C.same) }
 
-  pub cut-end : end ≤ from → CutAt s at end watermark from
+  pub cut-end : commit_stream.get left ≡ none → CutAt history watermark (length history - length left)
   unfolding prune keep
-  cut-end h = let e : C.cs ≡ [] = walk_end C.walk h in cut-here (e ∙ sym (ap (prune watermark) e))
+  cut-end f = let e : C.cs ≡ [] = (history-end left C.cs C.reads f).1 in cut-here (e ∙ sym (ap (prune watermark) e))
 
-  module _ (h : from < end) {number start count next : ℕ} (T : Told s from end (commit_read s from end) (Whole number start count next)) where
-    entry : Commit
-    entry = make_commit number (hashes_in s start count)
+  module _ (c : Commit) (behind : Bytes) (f : commit_stream.get left ≡ some (c, behind)) where
+    step : Step c behind C.cs
+    step = history-on left C.cs c behind C.reads f
 
-    step : Step s end number start count next C.cs
-    step = walk_step h C.walk T
-
-    rise-here : rises cmp_commit (entry ∷ step.rest) ≡ true
-    unfolding entry
+    rise-here : rises cmp_commit (c ∷ step.rest) ≡ true
     rise-here = ap (rises cmp_commit) (sym step.is) ∙ C.rise
 
-    pub cut-stop : watermark ≤ number → CutAt s at end watermark from
-    unfolding entry rises
-    cut-stop l = cut-here (step.is ∙ sym (ap (prune watermark) step.is ∙ prune-none watermark entry step.rest l rise-here))
+    pub cut-stop : watermark ≤ c.number → CutAt history watermark (length history - length left)
+    unfolding rises
+    cut-stop l = cut-here (step.is ∙ sym (ap (prune watermark) step.is ∙ prune-none watermark c step.rest l rise-here))
 
-    pub cut_on : number < watermark → Cutting s at end watermark next
-    unfolding entry rises
+    pub cut_on : c.number < watermark → Cutting history watermark behind
+    unfolding rises
     cut_on l =
-        let r = C.reached in
-        let i = T.lies in
+        let g = front left c behind f in
+        let n = g.long in
+        let s = C.short in
+        let k : length history - length left + (16 + 4 * length c.hashes) ≡ length history - length behind = omega arith in
         record {
           cs = step.rest;
-          reached = omega arith;
-          walk = step.on;
-          rise = rises-of cmp_commit commit-order entry step.rest rise-here;
-          same = C.same ∙ ap (prune watermark) step.is ∙ prune-below watermark entry step.rest l;
+          short = omega arith;
+          here = g.behind ∙ ap (drop (16 + 4 * length c.hashes)) C.here ∙ drop-drop (16 + 4 * length c.hashes) (length history - length left) history ∙ ap (λ (j : ℕ). drop j history) k;
+          reads = step.on;
+          rise = rises-of cmp_commit commit-order c step.rest rise-here;
+          same = C.same ∙ ap (prune watermark) step.is ∙ prune-below watermark c step.rest l;
         }
 
 -- ---- what a cut leaves is what pruning leaves
 
-pub cut-reads : {s : Bytes} {at end w cut : ℕ} → CutAt s at end w cut → is_some (history_read s cut end) ≡ true
+pub cut-reads : {history : Bytes} {w cut : ℕ} → CutAt history w cut → is_some (history_read (drop cut history)) ≡ true
 cut-reads C = ap is_some C.stays
 
-pub cut-history : {s : Bytes} {at end w cut : ℕ} → CutAt s at end w cut → history_in s cut end ≡ prune w (history_in s at end)
-unfolding history_in
-cut-history C = ap or_empty C.stays
+pub cut-history : {history : Bytes} {w cut : ℕ} → CutAt history w cut → history_in (drop cut history) ≡ prune w (history_in history)
+cut-history {history} {w} {cut} C = history-is (drop cut history) (prune w (history_in history)) C.stays
 
 -- there is one such place
-pub cut-same : {s : Bytes} {at end w a b : ℕ} → octets s ≡ true → end ≤ length s → CutAt s at end w a → CutAt s at end w b → a ≡ b
-cut-same {s} {at} {end} {w} {a} {b} o k A B =
+pub cut-same : {history : Bytes} {w a b : ℕ} → CutAt history w a → CutAt history w b → a ≡ b
+cut-same {history} {w} {a} {b} A B =
+    let cs : List Commit = prune w (history_in history) in
+    let m = history-size cs (drop a history) A.stays in
+    let n = history-size cs (drop b history) B.stays in
+    let i = length-drop a history in
+    let j = length-drop b history in
     let p = A.to in
     let q = B.to in
-    let i : history_in s a end ≡ history_in s b end = cut-history A ∙ sym (cut-history B) in
-    let e : part s a (end - a) ≡ part s b (end - b) =
-    (walk_start s a end o p k (cut-reads A)).bytes ∙ ap (λ (cs : List Commit). history_bytes cs) i ∙ sym (walk_start s b end o q k (cut-reads B)).bytes in
-    let m : end - a ≡ end - b = sym (length_part s a (end - a) (omega arith)) ∙ ap length e ∙ length_part s b (end - b) (omega arith) in
     omega arith
-
--- ---- how much it is
-
-pub record Counting (s : Bytes) (at end from entries hashes : ℕ) : Type 0 where
-  pub cs : List Commit
-  pub walk : Walk s from end cs
-  pub size : at + 16 * entries + 4 * hashes ≡ from
-  pub many : length (history_in s at end) ≡ entries + length cs
-  pub large : hash_count (history_in s at end) ≡ hashes + hash_count cs
-
-pub count-start : (s : Bytes) (at end : ℕ) → octets s ≡ true → at ≤ end → end ≤ length s → is_some (history_read s at end) ≡ true → Counting s at end at 0 0
-count-start s at end o h k i =
-    record { cs = history_in s at end; walk = walk_start s at end o h k i; size = omega arith; many = omega arith; large = omega arith }
-
-module _ {s : Bytes} {at end from entries hashes : ℕ} (C : Counting s at end from entries hashes) where
-  pub count-end : end ≤ from → (entries ≡ length (history_in s at end)) × (hashes ≡ hash_count (history_in s at end))
-  unfolding hash_count total
-  count-end h =
-      let e : C.cs ≡ [] = walk_end C.walk h in
-      let f : length C.cs ≡ 0 = ap length e in
-      let g : hash_count C.cs ≡ 0 = ap hash_count e in
-      (omega (arith, C.many), omega (arith, C.large))
-
-  pub count-on : (h : from < end) {number start count next : ℕ} → Told s from end (commit_read s from end) (Whole number start count next) → Counting s at end next (entries + 1) (hashes + count)
-  unfolding hash_count total
-  count-on h {number} {start} {count} T =
-      let t = walk_step h C.walk T in
-      let i = T.lies in
-      let n : length (hashes_in s start count) ≡ count = length-hashes count (drop start s) in
-      let f : length C.cs ≡ 1 + length t.rest = ap length t.is ∙ omega arith in
-      let g : hash_count C.cs ≡ count + hash_count t.rest = ap hash_count t.is ∙ ap (λ (m : ℕ). m + hash_count t.rest) n in
-      let z = C.size in
-      record { cs = t.rest; walk = t.on; size = omega arith; many = omega (arith, C.many); large = omega (arith, C.large) }
 
 -- ---- whether there is room for one more
 

@@ -1,5 +1,7 @@
 -- How an opening ends: each return of its code, in the order of the checks.
 -- Assumes nothing.
+use Rattle.std.specs.Prelude.{Result, Ok, Err, MatchResult}
+use Rattle.std.specs.Result.{IsErrAnd}
 use Prim.Native.Nat.{ℕ, ◌≤◌, ◌<◌}
 use mathlib.Core.Path.{◌≡◌, sym, ap, ◌∙◌}
 use mathlib.Core.Bool.{true, false}
@@ -8,18 +10,25 @@ use lib.ListN.{length}
 use borrow.Author.Tests.{le-leb, lt-leb}
 use Rattle.paper.specs.Keys.{Bytes}
 use Rattle.paper.specs.Settings.{Settings, in_ranges, state_length}
-use Rattle.paper.specs.Refusals.{Refusal, bad_setting, bad_run, foreign_run, no_room, run_area, state_buffer, stop, must, ◌>>◌, ◌>>=◌}
+use Rattle.paper.specs.Refusals.{Refusal, bad_setting, no_room, run_area, state_buffer, stop, go, must, ◌>>◌, ◌>>=◌}
 use Rattle.paper.specs.Room.{images_fit}
 use Rattle.paper.specs.Calls.{Call, opening, done, opened, open_runs, open_store, images_in, try_open, tried}
 use Rattle.layout.specs.Layout.{write_store}
-use Rattle.reply.specs.Told.{Told, nothing, why, told}
+use Rattle.reply.specs.declared.Refusal.{Refusal as Given}
+use Rattle.reply.specs.Told.{Told, nothing, why, told, refusal_of, try_of}
 use Rattle.reply.specs.OnBytes.{told_on}
 use Rattle.reply.proofs.Ends.{refused-told, done-told}
-use Rattle.area.specs.declared.opening.OpenCheck.TheVariants as answer
-use Rattle.area.specs.Opening.{open_answer, clock_of, runs_in}
-use Rattle.area.proofs.OpeningLaws.{opened-good, opened-broken, opened-foreign}
+use Rattle.area.specs.declared.opening.BadRun.{BadRun}
+use Rattle.area.specs.Opening.{refused_for, open_answer, clock_of, runs_in}
+use Rattle.area.proofs.OpeningLaws.{opened-good, opened-bad}
 use Rattle.opening.specs.Opening.{Passed}
 use Rattle.opening.proofs.Writing.{passed-opens}
+
+-- the check of the runs, its error told as a refusal
+pub checked : (r : Result ℕ BadRun) (m : Result ℕ Given) → MatchResult r (λ x. m ≡ Ok x) (λ e. IsErrAnd m (λ w. refusal_of w ≡ refused_for e.place e.why)) → try_of m ≡ open_answer r
+checked (Ok x) m h = ap try_of h
+checked (Err e) (Ok y) h = absurd h
+checked (Err e) (Err w) h = ap stop h
 
 module _ (st : Settings) (images : Bytes) (lengths : List ℕ) (b : Bytes) where
   abbrev call : Call
@@ -36,19 +45,12 @@ module _ (st : Settings) (images : Bytes) (lengths : List ℕ) (b : Bytes) where
   ends-setting h = refused_as bad_setting (simp h)
 
   module _ (h : in_ranges st ≡ true) where
-    -- 10
-    pub ends-broken : (place : ℕ) → open_answer (answer.Broken place) ≡ clock_of (open_runs 1 (images_in images lengths))
-        → ◌≡◌ {A = Told × Bytes} (why (bad_run place), b) (told_on (opening st images lengths (length b)) b)
+    -- 10 or 11
+    pub ends-bad : (r : Refusal) → stop r ≡ clock_of (open_runs 1 (images_in images lengths)) → ◌≡◌ {A = Told × Bytes} (why r, b) (told_on (opening st images lengths (length b)) b)
     unfolding open_store must ◌>>◌ ◌>>=◌
-    ends-broken place e = refused_as (bad_run place) (simp (h, opened-broken images lengths place e))
+    ends-bad r e = refused_as r (simp (h, opened-bad images lengths r e))
 
-    -- 11
-    pub ends_foreign : (place : ℕ) → open_answer (answer.Foreign place) ≡ clock_of (open_runs 1 (images_in images lengths))
-        → ◌≡◌ {A = Told × Bytes} (why (foreign_run place), b) (told_on (opening st images lengths (length b)) b)
-    unfolding open_store must ◌>>◌ ◌>>=◌
-    ends_foreign place e = refused_as (foreign_run place) (simp (h, opened-foreign images lengths place e))
-
-    module _ (clock : ℕ) (e : open_answer (answer.Good clock) ≡ clock_of (open_runs 1 (images_in images lengths))) where
+    module _ (clock : ℕ) (e : go clock ≡ clock_of (open_runs 1 (images_in images lengths))) where
       -- 5, for the run area
       pub ends-area : images_fit st (images_in images lengths) ≡ false → ◌≡◌ {A = Told × Bytes} (why (no_room run_area), b) (told_on (opening st images lengths (length b)) b)
       unfolding open_store must ◌>>◌ ◌>>=◌

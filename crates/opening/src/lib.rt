@@ -8,13 +8,14 @@ ghost use Rattle.paper.specs.Calls.{opened, opening};
 ghost use Rattle.layout.specs.Offsets.{freed};
 ghost use Rattle.layout.specs.Layout.{write_store};
 ghost use Rattle.settings.specs.Opening.{settings_of};
-ghost use Rattle.area.specs.Opening.{runs_in};
-ghost use Rattle.reply.specs.Told.{Told, told_settled};
+ghost use Rattle.area.specs.Opening.{refused_for, runs_in};
+ghost use Rattle.reply.specs.Told.{Told, refusal_of, told_settled};
 ghost use Rattle.reply.specs.OnBytes.{told_on};
 ghost use Rattle.opening.specs.Opening.{emptied, Passed};
 
-use area::opening::OpenCheck;
-use reply::{Refusal, Room, Settled};
+use area::opening::BadRun;
+use reply::{Refusal, Room};
+use run::BadImage;
 use settings::Settings;
 
 // ---- the parts of an opened store
@@ -25,12 +26,12 @@ fn empty_parts(state: &mut [u8], st: Settings, clock: u64)
     requires { (in_ranges (settings_of st) ≡ true) × (state_length (settings_of st) ≤ length state.old) }
     ensures { state.new ≡ emptied (settings_of st) clock state.old }
 {
-    let shape = settings::shape_of(st);
-    raw::put_be64(state, 72, clock);
-    raw::put_be64(state, 80, 0);
-    raw::put_be64(state, 88, 0);
-    raw::put_be64(state, shape.history, 0);
-    raw::put_be64(state, shape.active, 0);
+    let shape = st.shape();
+    raw::put_number::<8>(state, 72, clock);
+    raw::put_number::<8>(state, 80, 0);
+    raw::put_number::<8>(state, 88, 0);
+    raw::put_number::<8>(state, shape.history, 0);
+    raw::put_number::<8>(state, shape.active, 0);
 }
 
 // Frees every place: 0 in place of its handle. What else stands in it stays.
@@ -38,13 +39,9 @@ fn free_places(state: &mut [u8], st: Settings)
     requires { (in_ranges (settings_of st) ≡ true) × (state_length (settings_of st) ≤ length state.old) }
     ensures { state.new ≡ freed (settings_of st) (settings_of st).transactions state.old }
 {
-    let shape = settings::shape_of(st);
-    let mut i = 0;
-    let mut at = shape.places;
-    while i < shape.count {
-        raw::put_be64(state, at, 0);
-        at = at + shape.stride;
-        i += 1;
+    let shape = st.shape();
+    for i in 0..shape.count {
+        raw::put_number::<8>(state, shape.place_at(i), 0);
     }
 }
 
@@ -53,8 +50,8 @@ fn write_opened(state: &mut [u8], st: Settings, clock: u64, images: &[u8], lengt
     requires { Passed (settings_of st) images.now lengths.now (length state.old) clock }
     ensures { state.new ≡ write_store (opened (settings_of st) (runs_in images.now lengths.now)) state.old }
 {
-    let shape = settings::shape_of(st);
-    settings::settings_write(state, st);
+    let shape = st.shape();
+    st.write(state);
     empty_parts(state, st, clock);
     area::opening::put_images(state, shape.area, images, lengths);
     free_places(state, st);
@@ -62,42 +59,35 @@ fn write_opened(state: &mut [u8], st: Settings, clock: u64, images: &[u8], lengt
 
 // ---- the call
 
+// Why an opening is refused for a run that is not good: 10 or 11, with its place.
+fn refused_for(bad: BadRun) -> Refusal
+    ensures { refusal_of result ≡ refused_for bad.place bad.why }
+{
+    match bad.why {
+        BadImage::Broken => Refusal::BadRun { place: bad.place },
+        BadImage::Foreign => Refusal::ForeignRun { place: bad.place },
+    }
+}
+
 // Opens a store in `state`, over anything: 12, then the runs from the first, 10 or 11, then 5, first for the run area. The images lie one after the other
 // in `images`, and `lengths` says how long each is.
-pub fn open(state: &mut [u8], st: Settings, images: &[u8], lengths: &[u64]) -> Settled
+pub fn open(state: &mut [u8], st: Settings, images: &[u8], lengths: &[u64]) -> Result<(), Refusal>
     ensures { ◌≡◌ {A = Told × Bytes} (told_settled result, state.new) (told_on (opening (settings_of st) images.now lengths.now (length state.old)) state.old) }
 {
-    if !settings::in_ranges(st) {
-        return Settled::Refused {
-            why: Refusal::BadSetting,
-        };
+    if !st.in_ranges() {
+        return Err(Refusal::BadSetting);
     }
-    match area::opening::open_check(images, lengths) {
-        OpenCheck::Broken { place } => Settled::Refused {
-            why: Refusal::BadRun { place: place },
-        },
-        OpenCheck::Foreign { place } => Settled::Refused {
-            why: Refusal::ForeignRun { place: place },
-        },
-        OpenCheck::Good { clock } => {
-            let fits = area::opening::images_fit(images, lengths, st.area);
-            let needed = settings::state_length(st);
-            if !fits {
-                return Settled::Refused {
-                    why: Refusal::NoRoom {
-                        room: Room::RunArea,
-                    },
-                };
-            }
-            if (state.len() as u64) < needed {
-                return Settled::Refused {
-                    why: Refusal::NoRoom {
-                        room: Room::StateBuffer,
-                    },
-                };
-            }
-            write_opened(state, st, clock, images, lengths);
-            Settled::Done
-        }
+    let clock = area::opening::open_check(images, lengths).map_err(refused_for)?;
+    if !area::opening::images_fit(images, lengths, st.area) {
+        return Err(Refusal::NoRoom {
+            room: Room::RunArea,
+        });
     }
+    if (state.len() as u64) < st.state_length() {
+        return Err(Refusal::NoRoom {
+            room: Room::StateBuffer,
+        });
+    }
+    write_opened(state, st, clock, images, lengths);
+    Ok(())
 }

@@ -1,12 +1,14 @@
 -- The check of packed entries, from the first on: what is left to be seen is whether the rest rises from the last key.
 -- Assumes nothing.
 use native.Mathlib.Omega.{arith}
+use Rattle.std.proofs.lemmas.Bool.{cases_lt, ne_eqb}
+use Rattle.std.proofs.Common.{eqb, eq-eqb, inl, inr}
 use mathlib.Core.Path.{◌≡◌, refl, sym, ap, ◌∙◌, subst}
 use mathlib.Core.Bool.{Bool, true, false, not, ◌&&◌}
 use mathlib.Core.Option.{Option, none, some}
-use mathlib.Core.List.{List, [], ◌∷◌}
+use mathlib.Core.List.{List, [], ◌∷◌, ◌++◌}
 use Prim.Native.Nat.{Ordering}
-use Prim.Native.Nat.{ℕ, ◌+◌, ◌-◌, ◌≤◌, ◌<◌}
+use Prim.Native.Nat.{◌<◌}
 use borrow.Author.Tests.{le-leb}
 use lib.Dec.{leb}
 use lib.ListN.{length}
@@ -14,16 +16,19 @@ use Rattle.paper.specs.Lists.{is_lt, all, is_empty, rises, rises_from}
 use Rattle.paper.specs.Keys.{Bytes, Pair, octets, cmp_key, cmp_pair}
 use Rattle.paper.specs.Settings.{longest}
 use Rattle.paper.specs.Sound.{sound_key, sound_value, sound_pair}
+use Rattle.paper.specs.Image.{big_endian}
 use Rattle.paper.proofs.Bools.{and_intro}
-use Rattle.raw.proofs.Parts.{length_part}
-use Rattle.raw.proofs.Octets.{octets-part}
+use Rattle.paper.proofs.ImageBack.{octets-left, octets-right}
+use Rattle.std.specs.declared.cmp.Ordering as std
+use Rattle.std.specs.declared.cmp.Ordering.TheVariants.{Less, Equal, Greater}
+use Rattle.raw.specs.Orders.{ordering}
+use Rattle.overlay.proofs.Pairs.{pair-bytes}
 use Rattle.layout.specs.Codec.{many, cons_of}
 use Rattle.layout.specs.Layout.{pair_stream}
 use Rattle.layout.proofs.Streams.{Got}
 use Rattle.layout.proofs.LayoutLaws.{OkPair, pair-laws}
 use Rattle.overlay.specs.Overlay.{pair, orderly, is_overlay}
-use Rattle.overlay.specs.Entries.{span, EntryAt}
-use Rattle.layout.proofs.Many.{many-end, many-step, many-cut}
+use Rattle.layout.proofs.Many.{many-end, many-step, many-cut, rest-less}
 
 -- the entries, if they could be read, rise from a key and are sound
 abbrev pub onward : Bytes → Option (List Pair) → Bool
@@ -69,45 +74,59 @@ above-some [] [] e = cc
 above-some (x ∷ k) [] e = cc
 above-some k (y ∷ j) e = refl
 
--- the check has come to `at`, behind a key k
-abbrev pub Verdict : Bytes → ℕ → ℕ → Bytes → Bool → Type 0
-Verdict s at end k b = b ≡ onward k ((many pair_stream).parse (span s at end))
+-- the check has come to the bytes s, behind a key k
+abbrev pub Verdict : Bytes → Bytes → Bool → Type 0
+Verdict s k b = b ≡ onward k ((many pair_stream).parse s)
 
-pub verdict-start : (s : Bytes) (at end : ℕ) (k : Bytes) → k ≡ [] → Verdict s at end k (is_overlay (span s at end))
+pub verdict-start : (s : Bytes) → Verdict s [] (is_overlay s)
 unfolding is_overlay
-verdict-start s at end k e = from_empty ((many pair_stream).parse (span s at end)) ∙ ap (λ (j : Bytes). onward j ((many pair_stream).parse (span s at end))) (sym e)
+verdict-start s = from_empty ((many pair_stream).parse s)
 
-module _ (s : Bytes) (o : octets s ≡ true) (at end : ℕ) (k : Bytes) (b : Bool) (v : Verdict s at end k b) (inside : end ≤ length s) where
-  pub verdict-end : at ≤ end → end ≤ at → true ≡ b
+module _ (s : Bytes) (o : octets s ≡ true) (k : Bytes) (b : Bool) (v : Verdict s k b) where
+  -- no entry is left: all is well where no bytes are
+  pub verdict-end : pair_stream.get s ≡ none → (e : Bool) → e ≡ eqb (length s) 0 → e ≡ b
   unfolding rises_from all
-  verdict-end l m = sym (v ∙ ap (onward k) (many-end pair-laws (span s at end) (length_part s at (end - at) (omega arith) ∙ omega arith)))
+  verdict-end n e i = elim (cases_lt 0 (length s)) [
+    | inl l ↦ i ∙ ne_eqb (length s) 0 (λ z. omega arith) ∙ sym (v ∙ ap (onward k) (many-cut pair-laws s l n))
+    | inr l ↦ let z : length s ≡ 0 = omega arith in i ∙ eq-eqb (length s) 0 z ∙ sym (v ∙ ap (onward k) (many-end pair-laws s z))
+  ]
 
-  module _ (l : at < end) where
-    long : 0 < length (span s at end)
-    long = rw (length_part s at (end - at) (omega arith)) (omega arith)
+  module _ (p : Pair) (r : Bytes) (read : pair_stream.get s ≡ some (p, r)) where
+    long : 0 < length s
+    long = let l = (rest-less pair-laws s p r o read).1 in omega arith
 
-    bytes : octets (span s at end) ≡ true
-    bytes = octets-part s at (end - at) o
+    stepped : (many pair_stream).parse s ≡ cons_of (some p) ((many pair_stream).parse r)
+    stepped = many-step pair-laws s p r o long read
 
-    pub verdict-cut : pair_stream.get (span s at end) ≡ none → false ≡ b
-    verdict-cut e = sym (v ∙ ap (onward k) (many-cut pair-laws (span s at end) long e))
+    pub verdict-low : is_lt (cmp_key k p.key) ≡ false → false ≡ b
+    verdict-low e = sym (v ∙ ap (onward k) stepped ∙ not-above k p ((many pair_stream).parse r) e)
 
-    module _ (ke ve : ℕ) (entry : EntryAt s at end ke ve) where
-      stepped : (many pair_stream).parse (span s at end) ≡ cons_of (some (pair (span s (at + 2) ke) (span s (ke + 2) ve))) ((many pair_stream).parse (span s ve end))
-      stepped = many-step pair-laws (span s at end) (pair (span s (at + 2) ke) (span s (ke + 2) ve)) (span s ve end) bytes long entry.read
+    -- what was read fits its fields, which have 16 bits
+    got : (s ≡ pair_stream.put p ++ r) × OkPair p
+    got = let g = subst (Got pair_stream.put OkPair s) read (pair-laws.again s o) in (g.0, g.1)
 
-      pub verdict-low : is_lt (cmp_key k (span s (at + 2) ke)) ≡ false → false ≡ b
-      verdict-low e = sym (v ∙ ap (onward k) stepped ∙ not-above k (pair (span s (at + 2) ke) (span s (ke + 2) ve)) ((many pair_stream).parse (span s ve end)) e)
+    fields : (octets p.key ≡ true) × (octets p.value ≡ true)
+    fields =
+        let x : Bytes = big_endian 2 (length p.key) ++ p.key in
+        let y : Bytes = big_endian 2 (length p.value) ++ p.value in
+        let e : octets (x ++ y) ≡ true = octets-left (x ++ y) r (ap octets (ap (λ (t : Bytes). t ++ r) (sym (pair-bytes p)) ∙ sym got.0) ∙ o) in
+        (octets-right (big_endian 2 (length p.key)) p.key (octets-left x y e), octets-right (big_endian 2 (length p.value)) p.value (octets-right x y e))
 
-      -- what was read fits its fields, which have 16 bits
-      fit : OkPair (pair (span s (at + 2) ke) (span s (ke + 2) ve))
-      fit = (subst (Got pair_stream.put OkPair (span s at end)) entry.read (pair-laws.again (span s at end) bytes)).1
+    -- the bytes behind it are fewer
+    pub verdict-rest : (octets r ≡ true) × (length r < length s)
+    verdict-rest = rest-less pair-laws s p r o read
 
-      pub verdict-next : cmp_key k (span s (at + 2) ke) ≡ Ordering.lt → Verdict s ve end (span s (at + 2) ke) b
-      unfolding sound_pair sound_key sound_value
-      verdict-next e =
-          v ∙ ap (onward k) stepped
-          ∙ one_more k (pair (span s (at + 2) ke) (span s (ke + 2) ve)) ((many pair_stream).parse (span s ve end)) e
-          (and_intro
-          (and_intro (above-some k (span s (at + 2) ke) e) (and_intro (le-leb (length (span s (at + 2) ke)) longest (omega (arith, fit.0.1))) (octets-part s (at + 2) (ke - (at + 2)) o)))
-          (and_intro (le-leb (length (span s (ke + 2) ve)) longest (omega (arith, fit.1.1))) (octets-part s (ke + 2) (ve - (ke + 2)) o)))
+    pub verdict-next : cmp_key k p.key ≡ Ordering.lt → Verdict r p.key b
+    unfolding sound_pair sound_key sound_value
+    verdict-next e =
+        v ∙ ap (onward k) stepped
+        ∙ one_more k p ((many pair_stream).parse r) e
+        (and_intro
+        (and_intro (above-some k p.key e) (and_intro (le-leb (length p.key) longest (omega (arith, got.1.0.1))) fields.0))
+        (and_intro (le-leb (length p.value) longest (omega (arith, got.1.1.1))) fields.1))
+
+-- an order that is not Less
+pub not-less : (q : std.Ordering) → (q ≡ Less → ⊥) → is_lt (ordering q) ≡ false
+not-less Less f = absurd (f refl)
+not-less Equal f = refl
+not-less Greater f = refl

@@ -1,6 +1,8 @@
 -- Packed entries: what is packed is read back, the first entry and those after it, and how many bytes they take.
 -- Assumes nothing.
 use native.Mathlib.Omega.{arith}
+use Rattle.std.proofs.Common.{inl, inr}
+use Rattle.std.proofs.lemmas.Bool.{cases_lt}
 use mathlib.Core.Path.{◌≡◌, refl, sym, ap, ◌∙◌, subst}
 use mathlib.Core.Bool.{true, not, ◌&&◌, false≢true}
 use mathlib.Core.Option.{Option, none, some}
@@ -9,7 +11,7 @@ use Prim.Native.Nat.{ℕ, ◌<◌}
 use borrow.Author.Tests.{leb-true}
 use lib.Dec.{leb}
 use lib.ListN.{length}
-use Rattle.paper.specs.Lists.{all, is_empty, is_some, rises, rises_from}
+use Rattle.paper.specs.Lists.{all, is_empty, rises, rises_from}
 use Rattle.paper.specs.Keys.{Bytes, Pair, octets, cmp_pair}
 use Rattle.paper.specs.Image.{big_endian}
 use Rattle.paper.specs.Settings.{longest}
@@ -25,7 +27,7 @@ use Rattle.layout.proofs.Streams.{Formed, All, many-laws}
 use Rattle.layout.proofs.LayoutLaws.{OkPair, pair-laws}
 use Rattle.layout.proofs.Sizes.{pair-long, all-long}
 use Rattle.overlay.specs.Overlay.{or_empty, pairs_in, orderly, is_overlay}
-use Rattle.layout.proofs.Many.{many-end, many-step, many-cut}
+use Rattle.layout.proofs.Many.{many-end, many-step, many-cut, rest-less}
 
 -- ---- sizes
 -- an entry as bytes
@@ -105,18 +107,20 @@ pub record First (s : Bytes) (p : Pair) (r : Bytes) : Type 0 where
   pub rise : rises_from cmp_pair p (pairs_in r) ≡ true
   pub sound : sound_pair p ≡ true
 
-module _ (s : Bytes) (o : octets s ≡ true) (h : is_overlay s ≡ true) (l : 0 < length s) where
-  -- there is one
-  pub first-there : is_some (pair_stream.get s) ≡ true
-  first-there = go (pair_stream.get s) refl
-    where
-      go : (q : Option (Pair × Bytes)) → pair_stream.get s ≡ q → is_some (pair_stream.get s) ≡ true
-      go none e = absurd (let f = sym (overlay-is s h).read ∙ many-cut pair-laws s l e in let z : ◌≡◌ {A = ℕ} 0 1 = cc in omega arith)
-      go (some q) e = ap is_some e
+module _ (s : Bytes) (o : octets s ≡ true) (h : is_overlay s ≡ true) where
+  -- no entry can be read where none is left
+  pub none-left : pair_stream.get s ≡ none → pairs_in s ≡ []
+  none-left e = elim (cases_lt 0 (length s)) [
+    | inl l ↦ absurd (let f = sym (overlay-is s h).read ∙ many-cut pair-laws s l e in let z : ◌≡◌ {A = ℕ} 0 1 = cc in omega arith)
+    | inr l ↦ overlay-end s (omega arith)
+  ]
 
   pub first-is : (p : Pair) (r : Bytes) → pair_stream.get s ≡ some (p, r) → First s p r
   first-is p r e = go ((many pair_stream).parse r) refl
     where
+      l : 0 < length s
+      l = let n = (rest-less pair-laws s p r o e).1 in omega arith
+
       step : (many pair_stream).parse s ≡ cons_of (some p) ((many pair_stream).parse r)
       step = many-step pair-laws s p r o l e
 

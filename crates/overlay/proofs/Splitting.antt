@@ -4,6 +4,7 @@ use native.Mathlib.Omega.{arith}
 use mathlib.Core.Path.{◌≡◌, refl, sym, ap, ap₂, ◌∙◌}
 use mathlib.Core.Bool.{true, cond}
 use mathlib.Core.Option.{none, some}
+use Rattle.std.specs.Prelude.{Result, Ok, Err}
 use mathlib.Core.List.{List, [], ◌∷◌, ◌++◌}
 use Prim.Native.Nat.{ℕ, ◌+◌, Ordering}
 use lib.ListN.{length}
@@ -15,7 +16,6 @@ use Rattle.paper.proofs.Bools.{and_left, and_right, is_lt-lt}
 use Rattle.paper.proofs.KeyOrder.{key-eq, key-order, pair-order}
 use Rattle.paper.proofs.Rising.{rises-of}
 use Rattle.overlay.specs.declared.Found.{Found}
-use Rattle.overlay.specs.declared.Found.TheVariants.{At, Gap}
 use Rattle.overlay.specs.Overlay.{pair, spot, found_at}
 use Rattle.overlay.proofs.Pairs.{rises-first}
 
@@ -67,12 +67,12 @@ no_write k p (q ∷ qs) e r =
     ∙ no_write k q qs (key-order.trans k p.key q.key e (is_lt-lt (cmp_pair p q) (and_left (is_lt (cmp_pair p q)) (rises_from cmp_pair q qs) r))) (and_right (is_lt (cmp_pair p q)) (rises_from cmp_pair q qs) r)
 
 -- an own write of the key was found among entries that start at an index
-pub record Hit (at : ℕ) (k : Bytes) (own : List Pair) (start vs stop : ℕ) : Type 0 where
+pub record Hit (at : ℕ) (k : Bytes) (own : List Pair) (f : Found) : Type 0 where
   pub value : Bytes
   pub parts : own ≡ below k own ++ (pair k value ∷ above k own)
-  pub first : start ≡ at + own_size (below k own)
-  pub mid : vs ≡ start + 4 + length k
-  pub last : stop ≡ vs + length value
+  pub first : f.start ≡ at + own_size (below k own)
+  pub mid : f.value ≡ f.start + 4 + length k
+  pub last : f.end ≡ f.value + length value
   pub write : own_write k own ≡ some value
 
 -- none was found
@@ -81,9 +81,9 @@ pub record Miss (at : ℕ) (k : Bytes) (own : List Pair) (gap : ℕ) : Type 0 wh
   pub first : gap ≡ at + own_size (below k own)
   pub write : rises cmp_pair own ≡ true → own_write k own ≡ none
 
-abbrev pub Spotted : ℕ → Bytes → List Pair → Found → Type 0
-Spotted at k own (At start vs stop) = Hit at k own start vs stop
-Spotted at k own (Gap gap) = Miss at k own gap
+abbrev pub Spotted : ℕ → Bytes → List Pair → Result Found ℕ → Type 0
+Spotted at k own (Ok f) = Hit at k own f
+Spotted at k own (Err gap) = Miss at k own gap
 
 -- beside an entry p
 module _ (k : Bytes) (p : Pair) (ps : List Pair) where
@@ -100,8 +100,8 @@ module _ (k : Bytes) (p : Pair) (ps : List Pair) where
   write-by o e = ap (λ c. cond (is_same c) (some p.value) (own_write k ps)) e
 
 -- further on than p
-further-on : (at : ℕ) (k : Bytes) (p : Pair) (ps : List Pair) (r : Found) → cmp_key k p.key ≡ Ordering.gt → Spotted (at + pair_size p) k ps r → Spotted at k (p ∷ ps) r
-further-on at k p ps (At start vs stop) e h =
+further-on : (at : ℕ) (k : Bytes) (p : Pair) (ps : List Pair) (r : Result Found ℕ) → cmp_key k p.key ≡ Ordering.gt → Spotted (at + pair_size p) k ps r → Spotted at k (p ∷ ps) r
+further-on at k p ps (Ok f) e h =
     let b = below_by k p ps Ordering.gt e in
     let c = above-by k p ps Ordering.gt e in
     record {
@@ -112,7 +112,7 @@ further-on at k p ps (At start vs stop) e h =
       last = h.last;
       write = write-by k p ps Ordering.gt e ∙ h.write;
     }
-further-on at k p ps (Gap gap) e h =
+further-on at k p ps (Err gap) e h =
     let b = below_by k p ps Ordering.gt e in
     let c = above-by k p ps Ordering.gt e in
     record {
@@ -133,7 +133,7 @@ in-front at k p ps e =
     }
 
 -- at p
-at-hand : (at : ℕ) (k : Bytes) (p : Pair) (ps : List Pair) → cmp_key k p.key ≡ Ordering.eq → Hit at k (p ∷ ps) at (at + 4 + length p.key) (at + pair_size p)
+at-hand : (at : ℕ) (k : Bytes) (p : Pair) (ps : List Pair) → cmp_key k p.key ≡ Ordering.eq → Hit at k (p ∷ ps) (record { start = at; value = at + 4 + length p.key; end = at + pair_size p })
 unfolding pair_size
 at-hand at k p ps e =
     let b = below_by k p ps Ordering.eq e in

@@ -1,38 +1,41 @@
--- One entry in bytes: where its key and its value lie.
+-- Own writes as the code holds them: what a field and an entry at the front of some bytes are, and the bytes that a write replaces.
 -- Assumes nothing.
-use Rattle.std.specs.Prelude.{ℕ, ◌+◌, ◌-◌, ◌≤◌, ◌≡◌}
-use Rattle.std.proofs.Math.Option.{none, some}
-use Rattle.paper.specs.Keys.{Bytes}
+use Rattle.std.specs.Prelude.{ℕ, ◌-◌, ◌≤◌, ◌≡◌, List, ◌++◌, length, take, drop, Option, Some, None}
+use Rattle.std.specs.Borrow.{Bor}
+use Rattle.std.proofs.Math.Option as math
+use Rattle.paper.specs.Lists.{insert}
+use Rattle.paper.specs.Keys.{Bytes, Pair, cmp_pair}
 use Rattle.raw.specs.Bytes.{part}
-use Rattle.layout.specs.Codec.{sized, plain}
+use Rattle.layout.specs.Codec.{put_all}
 use Rattle.layout.specs.Layout.{pair_stream}
-use Rattle.overlay.specs.Overlay.{pair}
-use Rattle.overlay.specs.declared.Entry.{Entry}
-use Rattle.overlay.specs.declared.Field.{Field}
-use Rattle.overlay.specs.declared.Field.TheVariants as field
-use Rattle.overlay.specs.declared.Read.{Read}
-use Rattle.overlay.specs.declared.Read.TheVariants.{Whole, Cut}
+use Rattle.overlay.specs.Overlay.{pair, pairs_in}
+use Rattle.overlay.specs.declared.own.Entry.{Entry}
+use Rattle.overlay.specs.declared.own.Own.{Own}
 
 -- the bytes from one index to another
 abbrev pub span : Bytes → ℕ → ℕ → Bytes
 span s at end = part s at (end - at)
 
--- a field, 'length 16 bits' and then as many bytes, starts at an index and ends at the one told; or it is cut
-abbrev pub FieldAt : Bytes → ℕ → ℕ → Field → Type 0
-FieldAt s at end (field.Until stop) = (at + 2 ≤ stop) × (stop ≤ end) × ((sized 2 plain).get (span s at end) ≡ some (span s (at + 2) stop, span s stop end))
-FieldAt s at end field.Short = (sized 2 plain).get (span s at end) ≡ none
+-- the own write that an entry is
+abbrev pub written : Entry → Pair
+written e = pair e.key.now e.value.now
 
--- an entry starts at an index: its key ends at ke, its value at ve
-pub record EntryAt (s : Bytes) (at end ke ve : ℕ) : Type 0 where
-  pub key : at + 2 ≤ ke
-  pub value : ke + 2 ≤ ve
-  pub inside : ve ≤ end
-  pub read : pair_stream.get (span s at end) ≡ some (pair (span s (at + 2) ke) (span s (ke + 2) ve), span s ve end)
+-- the own writes that an iterator has not given yet
+abbrev pub left : Own → List Pair
+left own = pairs_in own.bytes.now
 
-abbrev pub ReadAt : Bytes → ℕ → ℕ → Read → Type 0
-ReadAt s at end (Whole ke ve) = EntryAt s at end ke ve
-ReadAt s at end Cut = pair_stream.get (span s at end) ≡ none
+-- a field and the bytes behind it, or none
+abbrev pub field_read : Option (Bor Bytes × Bor Bytes) → math.Option (Bytes × Bytes)
+field_read None = math.none
+field_read (Some p) = math.some (p.0.now, p.1.now)
 
--- the same of the entry's place
-abbrev pub Placed : Bytes → ℕ → ℕ → Entry → Type 0
-Placed s at end e = EntryAt s at end e.ke e.ve
+-- an entry and the bytes behind it, or none
+abbrev pub entry_read : Option (Entry × Bor Bytes) → math.Option (Pair × Bytes)
+entry_read None = math.none
+entry_read (Some p) = math.some (written p.0, p.1.now)
+
+-- a write of a key goes in the place of the bytes from `start` to `stop`, whatever its value
+pub record Hole (s k : Bytes) (start stop : ℕ) : Type 0 where
+  pub mid : start ≤ stop
+  pub high : stop ≤ length s
+  pub filled : (v : Bytes) → put_all pair_stream (insert cmp_pair (pair k v) (pairs_in s)) ≡ take start s ++ (pair_stream.put (pair k v) ++ drop stop s)

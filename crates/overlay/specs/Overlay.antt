@@ -1,20 +1,16 @@
 -- The overlay of a transaction as packed bytes: the entries that they hold, and where the own write of a key stands or would stand.
 -- Assumes nothing.
-use Prim.Native.Nat.{ℕ, ◌+◌, ◌-◌, ◌≤◌, Ordering}
-use Rattle.std.specs.Prelude.{◌≡◌, Bool, false, ◌&&◌, List, [], ◌∷◌, length}
+use Prim.Native.Nat.{ℕ, ◌+◌, ◌-◌, Ordering}
+use Rattle.std.specs.Prelude.{Bool, false, ◌&&◌, List, [], ◌∷◌, length, Result, Ok, Err}
 use Rattle.std.proofs.Math.Option.{Option, none, some}
 use Rattle.paper.specs.Lists.{all, rises}
 use Rattle.paper.specs.Keys.{Bytes, Pair, cmp_key, cmp_pair}
 use Rattle.paper.specs.Store.{pair_size}
-use Rattle.paper.specs.Seen.{own_write}
 use Rattle.paper.specs.Sound.{sound_pair}
 use Rattle.raw.specs.Bytes.{part}
 use Rattle.layout.specs.Codec.{many}
 use Rattle.layout.specs.Layout.{pair_stream}
 use Rattle.overlay.specs.declared.Found.{Found}
-use Rattle.overlay.specs.declared.Found.TheVariants.{At, Gap}
-use Rattle.overlay.specs.declared.Answer.{Answer}
-use Rattle.overlay.specs.declared.Answer.TheVariants.{Value, Nothing}
 
 abbrev pub pair : Bytes → Bytes → Pair
 pair k v = record { key = k; value = v }
@@ -43,33 +39,12 @@ abbrev pub overlay_in : Bytes → ℕ → ℕ → Bool
 overlay_in s at end = is_overlay (part s at (end - at))
 
 -- where a key stands beside an entry p that starts at an index: in front of it, in it, or further on
-abbrev pub spot : Ordering → ℕ → Pair → Found → Found
-spot Ordering.lt at p further = Gap at
-spot Ordering.eq at p further = At at (at + 4 + length p.key) (at + pair_size p)
+abbrev pub spot : Ordering → ℕ → Pair → Result Found ℕ → Result Found ℕ
+spot Ordering.lt at p further = Err at
+spot Ordering.eq at p further = Ok (record { start = at; value = at + 4 + length p.key; end = at + pair_size p })
 spot Ordering.gt at p further = further
 
 -- where the own write of a key stands among packed entries that start at an index, or the index at which it would stand
-unfoldable pub found_at : ℕ → Bytes → List Pair → Found
-found_at at k [] = Gap at
+unfoldable pub found_at : ℕ → Bytes → List Pair → Result Found ℕ
+found_at at k [] = Err at
 found_at at k (p ∷ ps) = spot (cmp_key k p.key) at p (found_at (at + pair_size p) k ps)
-
--- the place of the value that was found
-abbrev pub answer_at : Found → Answer
-answer_at (At start vs end) = Value vs end
-answer_at (Gap at) = Nothing
-
--- the value that an answer names
-abbrev pub answered : Bytes → Answer → Option Bytes
-answered s (Value start end) = some (part s start (end - start))
-answered s Nothing = none
-
--- an answer's value lies between two indices
-abbrev pub Between : ℕ → ℕ → Answer → Type 0
-Between at end (Value start stop) = (at ≤ start) × (start ≤ stop) × (stop ≤ end)
-Between at end Nothing = Unit {0}
-
--- the answer to what a transaction has written at a key: 'the transaction's own last write of a key'
-pub record Answered (s : Bytes) (at end : ℕ) (k : Bytes) (r : Answer) : Type 0 where
-  pub place : r ≡ answer_at (found_at at k (own_in s at end))
-  pub value : answered s r ≡ own_write k (own_in s at end)
-  pub inside : Between at end r

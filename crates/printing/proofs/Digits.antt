@@ -1,66 +1,34 @@
--- The loop that makes decimal digits, the last one first.
+-- The library's decimal digits are the paper's.
 -- Assumes nothing.
-use native.Mathlib.Omega.{arith}
-use mathlib.Core.Path.{◌≡◌, sym, ap, ap₂, subst, ◌∙◌}
-use mathlib.Core.List.{◌∷◌}
-use Prim.Native.Nat.{ℕ, zero, suc, ◌+◌, ◌-◌, ◌/◌, ◌%◌, ◌^◌, ◌≤◌, ◌<◌}
-use lib.ListN.{length, drop, set, length-set, length-drop, drop_of_length-le}
-use lib.Seq.{take_all, drop-cons, get_or-set_same, drop-set-lt}
+use Rattle.std.proofs.Common.{arith}
+use mathlib.Core.Path.{◌≡◌, refl, sym, ap, ◌∙◌}
+use mathlib.Core.Bool.{Bool, true, false}
+use mathlib.Core.List.{[], ◌∷◌, ◌++◌, append_assoc, append-nil}
+use Prim.Native.Nat.{ℕ, zero, suc, ◌+◌, ◌/◌, ◌%◌, ◌^◌, ◌≤◌, ◌<◌}
+use lib.Dec.{ltb}
+use borrow.Author.Tests.{ltb-true, ltb-false}
+use Rattle.std.specs.Fmt as std
+use Rattle.std.proofs.lemmas.Fmt.{decimal_digit, decimal_step}
 use Rattle.paper.specs.Keys.{Bytes}
 use Rattle.paper.specs.Replay.{decimal, decimal_of}
 use Rattle.paper.proofs.Decimals.{decimal-last, decimal-turn, fewer_digits}
-use Rattle.raw.specs.Bytes.{part}
 
--- The digits behind index start are made; those of rest go before them, and there is room for them.
-pub record Made (n : ℕ) (digits : Bytes) (start rest : ℕ) : Type 0 where
-  pub size : length digits ≡ 20
-  pub within : start < 20
-  pub small : rest < 10 ^ suc start
-  pub made : decimal (suc start) rest (drop (suc start) digits) ≡ decimal_of n
+-- the digits of n, of which there are at most one more than f, in front of what follows
+digits-in-front : (f n : ℕ) (tail : Bytes) → n < 10 ^ suc f → n < 2 ^ 64 → decimal (suc f) n tail ≡ std.decimal n ++ tail
+digits-in-front zero n tail h w =
+    let k : n < 10 = omega arith in
+    decimal-last 0 n tail k ∙ ap (λ (s : Bytes). s ++ tail) (sym (decimal_digit n k))
+digits-in-front (suc f) n tail h w = go (ltb n 10) refl (digits-in-front f (n / 10) ((48 + n % 10) ∷ tail) (fewer_digits n (suc f) h) (omega arith))
+  where
+    go : (b : Bool) → ltb n 10 ≡ b → decimal (suc f) (n / 10) ((48 + n % 10) ∷ tail) ≡ std.decimal (n / 10) ++ ((48 + n % 10) ∷ tail)
+        → decimal (suc (suc f)) n tail ≡ std.decimal n ++ tail
+    go true e further =
+        let k : n < 10 = ltb-true n 10 e in
+        decimal-last (suc f) n tail k ∙ ap (λ (s : Bytes). s ++ tail) (sym (decimal_digit n k))
+    go false e further =
+        let k : 10 ≤ n = ltb-false n 10 e in
+        decimal-turn (suc f) n tail k ∙ further ∙ sym (append_assoc (std.decimal (n / 10)) ((48 + n % 10) ∷ []) tail)
+        ∙ ap (λ (s : Bytes). s ++ tail) (sym (decimal_step n k w))
 
-pub made-start : (n : ℕ) (digits : Bytes) → length digits ≡ 20 → n < 10 ^ 20 → Made n digits 19 n
-made-start n digits e h =
-    record {
-      size = e;
-      within = omega arith;
-      small = h;
-      made = ap (decimal 20 n) (drop_of_length-le digits {i = 20} (omega arith));
-    }
-
-stored : (l : Bytes) (i v : ℕ) → i < length l → drop i (set l i v) ≡ v ∷ drop (suc i) l
-stored l i v h =
-    drop-cons (set l i v) i 0 (rw length-set h)
-    ∙ ap₂ {C = Bytes} (λ b t. b ∷ t) (get_or-set_same l i v 0 h) (drop-set-lt (suc i) l i v (omega arith))
-
-module _ (n : ℕ) (digits : Bytes) (start rest : ℕ) (m : Made n digits start rest) where
-  -- two digits or more: there is room before this one
-  pub room-before : 10 ≤ rest → 1 ≤ start
-  room-before h = go start m.small
-    where
-      go : (i : ℕ) → rest < 10 ^ suc i → 1 ≤ i
-      go zero k = omega arith
-      go (suc i) k = omega arith
-
-  pub made-turn : 10 ≤ rest → Made n (set digits start (48 + rest % 10)) (start - 1) (rest / 10)
-  made-turn h =
-      let l : Bytes = set digits start (48 + rest % 10) in
-      let r : 1 ≤ start = room-before h in
-      let e : start ≡ suc (start - 1) = omega arith in
-      record {
-        size = rw length-set m.size;
-        within = omega arith;
-        small = subst (λ (i : ℕ). rest / 10 < 10 ^ i) e (fewer_digits rest start m.small);
-        made =
-            ap (λ (i : ℕ). decimal i (rest / 10) (drop i l)) (sym e)
-            ∙ ap (decimal start (rest / 10)) (stored digits start (48 + rest % 10) (omega arith))
-            ∙ sym (decimal-turn start rest (drop (suc start) digits) h)
-            ∙ m.made;
-      }
-
-  pub made-last : rest < 10 → part (set digits start (48 + rest)) start (20 - start) ≡ decimal_of n
-  made-last h =
-      let w : length (drop start (set digits start (48 + rest))) ≤ 20 - start = rw (length-drop, length-set) (omega arith) in
-      take_all (20 - start) (drop start (set digits start (48 + rest))) w
-      ∙ stored digits start (48 + rest) (omega arith)
-      ∙ sym (decimal-last start rest (drop (suc start) digits) h)
-      ∙ m.made
+pub decimals-are : (n : ℕ) → n < 2 ^ 64 → std.decimal n ≡ decimal_of n
+decimals-are n h = sym (digits-in-front 19 n [] (omega arith) h ∙ append-nil (std.decimal n))

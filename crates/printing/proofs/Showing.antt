@@ -14,6 +14,8 @@ use Rattle.paper.specs.Keys.{Bytes}
 use Rattle.raw.specs.Bytes.{over}
 use Rattle.raw.proofs.Over.{over_none, over-after, length_over}
 use Rattle.printing.specs.Shown.{fitting, shown}
+use Rattle.printing.specs.Shows.{Shows}
+use Rattle.printing.specs.declared.Page.{Page}
 
 -- ---- the first bytes of a text
 
@@ -115,3 +117,10 @@ module _ (out : Bytes) (at : ℕ) where
   -- what a call leaves that shows y behind what an earlier call showed
   pub shown-then : (x y l k : Bytes) (m n : ℕ) → ◌≡◌ {A = Bytes × ℕ} (l, m) (shown out at x) → ◌≡◌ {A = Bytes × ℕ} (k, n) (shown l m y) → ◌≡◌ {A = Bytes × ℕ} (k, n) (shown out at (x ++ y))
   shown-then x y l k m n e f = f ∙ ap (λ (p : Bytes × ℕ). shown p.0 p.1 y) e ∙ shown-more x y
+
+-- ---- the same of a page
+pub shows_both : {p q r : Page} (x y : Bytes) → Shows p q x → Shows q r y → Shows p r (x ++ y)
+shows_both {p} x y a b = record { same_buffer = b.same_buffer ∙ a.same_buffer; text = shown-then p.out.now p.at x y _ _ _ _ a.text b.text }
+
+pub shows_as : {p q : Page} {x y : Bytes} → x ≡ y → Shows p q x → Shows p q y
+shows_as {p} e a = record { same_buffer = a.same_buffer; text = a.text ∙ ap (shown p.out.now p.at) e }

@@ -1,2 +1,3 @@
 -- A text in an out buffer.
 pub mod Shown
+pub mod Shows

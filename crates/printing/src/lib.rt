@@ -1,60 +1,51 @@
 // Output lines in a lent buffer: texts and decimal numbers, one behind the other. What does not fit is left out, so that no function here asks for room.
 #![tactic(auto)]
 
-ghost use Rattle.std.specs.Prelude.{◌≡◌, ◌∷◌, ℕ, min};
-ghost use Rattle.paper.specs.Keys.{Bytes};
+ghost use Rattle.std.specs.Prelude.{◌≡◌, ◌∷◌};
 ghost use Rattle.paper.specs.Replay.{decimal_of};
-ghost use Rattle.printing.specs.Shown.{shown};
+ghost use Rattle.printing.specs.Shows.{Shows};
 
-fn lesser(a: usize, b: usize) -> usize
-    ensures { result ≡ min a b }
-{
-    if a < b {
-        return a;
+// The lent buffer, and the index behind what is shown in it.
+#[derive(Drop)]
+pub struct Page<'a> {
+    pub out: &'a mut [u8],
+    pub at: usize,
+}
+
+impl Page<'_> {
+    // Shows x.
+    pub fn text(&mut self, x: &[u8])
+        ensures { Shows self.old self.new x.now }
+    {
+        let at = self.at;
+        if self.out.len() <= at {
+            return;
+        }
+        let n = x.len().min(self.out.len() - at);
+        raw::copy_at(self.out, at, &x[..n]);
+        self.at = at + n;
     }
-    b
-}
 
-// Shows x from `at` on, and answers with the index behind it.
-pub fn text(out: &mut [u8], at: usize, x: &[u8]) -> usize
-    ensures { ◌≡◌ {A = Bytes × ℕ} (out.new, result) (shown out.old at x.now) }
-{
-    if out.len() <= at {
-        return at;
+    // Shows the decimal digits of n.
+    pub fn decimal(&mut self, n: u64)
+        ensures { Shows self.old self.new (decimal_of n) }
+    {
+        self.text(itoa::Buffer::new().format(n).as_bytes());
     }
-    let n = lesser(out.len() - at, x.len());
-    raw::copy_at(out, at, &x[..n]);
-    at + n
-}
 
-// Shows the decimal digits of n. They are made from the last one on: 2^64-1 has 20 of them.
-pub fn decimal(out: &mut [u8], at: usize, n: u64) -> usize
-    ensures { ◌≡◌ {A = Bytes × ℕ} (out.new, result) (shown out.old at (decimal_of n)) }
-{
-    let mut digits = [0u8; 20];
-    let mut start = 19;
-    let mut rest = n;
-    while 10 <= rest {
-        digits[start] = (48 + rest % 10) as u8;
-        rest = rest / 10;
-        start -= 1;
+    // Shows one field more: 'One space between fields'.
+    pub fn word(&mut self, x: &[u8])
+        ensures { Shows self.old self.new (32 ∷ x.now) }
+    {
+        self.text(b" ");
+        self.text(x);
     }
-    digits[start] = (48 + rest) as u8;
-    text(out, at, &digits[start..])
-}
 
-// Shows one field more: 'One space between fields'.
-pub fn word(out: &mut [u8], at: usize, x: &[u8]) -> usize
-    ensures { ◌≡◌ {A = Bytes × ℕ} (out.new, result) (shown out.old at (32 ∷ x.now)) }
-{
-    let next = text(out, at, b" ");
-    text(out, next, x)
-}
-
-// Shows one field more, a number.
-pub fn number(out: &mut [u8], at: usize, n: u64) -> usize
-    ensures { ◌≡◌ {A = Bytes × ℕ} (out.new, result) (shown out.old at (32 ∷ decimal_of n)) }
-{
-    let next = text(out, at, b" ");
-    decimal(out, next, n)
+    // Shows one field more, a number.
+    pub fn number(&mut self, n: u64)
+        ensures { Shows self.old self.new (32 ∷ decimal_of n) }
+    {
+        self.text(b" ");
+        self.decimal(n);
+    }
 }

@@ -1,33 +1,14 @@
--- What is asked by numbers: a bound's kind, and the cursors filled one after the other.
+-- What is asked by numbers: the cursors filled one after the other.
 -- Assumes nothing.
 use native.Mathlib.Omega.{arith}
 use native.Mathlib.Numerals.{add-one}
 use Prim.Native.Nat.{ℕ, ◌+◌, ◌<◌}
 use mathlib.Core.Path.{◌≡◌, refl, sym, ap, ◌∙◌}
-use mathlib.Core.Bool.{Bool, cond}
 use mathlib.Core.List.{List, [], ◌∷◌, ◌++◌}
-use borrow.Author.Tests.{eq-eqb, ne_eqb}
-use lib.Dec.{eqb}
 use lib.ListN.{length, take, set}
 use lib.Seq.{take-suc-set, take_all}
 use Rattle.merge.specs.declared.heap.Cursor.{Cursor}
-use Rattle.lsm.specs.declared.bounds.Edge.TheVariants.{Included, Excluded, Unbounded}
-use Rattle.probe.specs.Asked.{edge_of, cursor_at, placed}
-
--- ---- a bound's kind
-pub edge-included : (n : ℕ) → n ≡ 0 → Included ≡ edge_of n
-unfolding edge_of
-edge-included n e = sym (ap (λ (b : Bool). cond b Included (cond (eqb n 1) Excluded Unbounded)) (eq-eqb n 0 e))
-
-edge_other : (n : ℕ) → (n ≡ 0 → ⊥) → cond (eqb n 1) Excluded Unbounded ≡ edge_of n
-unfolding edge_of
-edge_other n e = sym (ap (λ (b : Bool). cond b Included (cond (eqb n 1) Excluded Unbounded)) (ne_eqb n 0 e))
-
-pub edge-excluded : (n : ℕ) → (n ≡ 0 → ⊥) → n ≡ 1 → Excluded ≡ edge_of n
-edge-excluded n e f = sym (ap (λ (b : Bool). cond b Excluded Unbounded) (eq-eqb n 1 f)) ∙ edge_other n e
-
-pub edge-unbounded : (n : ℕ) → (n ≡ 0 → ⊥) → (n ≡ 1 → ⊥) → Unbounded ≡ edge_of n
-edge-unbounded n e f = sym (ap (λ (b : Bool). cond b Excluded Unbounded) (ne_eqb n 1 f)) ∙ edge_other n e
+use Rattle.probe.specs.Asked.{cursor_at, placed}
 
 -- ---- the cursors
 pub placed-none : (ps : List ℕ) → [] ≡ placed ps 0

@@ -1,14 +1,8 @@
 -- What a caller asks by numbers.
 -- Assumes nothing.
-use Rattle.std.specs.Prelude.{ℕ, zero, suc, ◌+◌, cond, List, [], ◌∷◌, ◌++◌, eqb, get_or}
+use Rattle.std.specs.Prelude.{ℕ, zero, suc, ◌+◌, List, [], ◌∷◌, ◌++◌, get_or}
 use Rattle.merge.specs.declared.heap.Cursor.{Cursor}
-use Rattle.lsm.specs.declared.bounds.Edge.{Edge}
-use Rattle.lsm.specs.declared.bounds.Edge.TheVariants.{Included, Excluded, Unbounded}
 use Rattle.lsm.specs.declared.view.View.{View}
-
--- 'bounds are included, excluded or unbounded on each side'
-unfoldable pub edge_of : ℕ → Edge
-edge_of n = cond (eqb n 0) Included (cond (eqb n 1) Excluded Unbounded)
 
 -- the cursor of run i
 abbrev pub cursor_at : List ℕ → ℕ → Cursor

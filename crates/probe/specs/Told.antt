@@ -1,32 +1,33 @@
 -- What a caller is told by numbers.
 -- Assumes nothing.
 use Rattle.std.specs.Prelude.{ℕ, ◌≡◌, List, set}
+use Rattle.std.specs.Prelude.{None, Some}
+use Rattle.std.specs.Prelude as std
 use Rattle.std.proofs.Math.Option.{Option}
 use Rattle.paper.specs.Keys.{Bytes}
 use Rattle.paper.specs.Image.{Verdict, good, broken, foreign}
 use Rattle.lsm.specs.Answers.{value_in, InAnswer}
-use Rattle.lsm.specs.declared.answer.Answer.{Answer}
-use Rattle.lsm.specs.declared.answer.Answer.TheVariants.{At, End}
+use Rattle.lsm.specs.declared.answer.Span.{Span}
 
 -- 1 for a pair, 0 for none
-abbrev pub code_of : Answer → ℕ
-code_of (At p) = 1
-code_of End = 0
+abbrev pub code_of : std.Option Span → ℕ
+code_of (Some p) = 1
+code_of None = 0
 
 -- the pair's places in the first four numbers; without a pair nothing is written
-abbrev pub numbers_of : Answer → List ℕ → List ℕ
-numbers_of (At p) ns = set (set (set (set ns 0 p.ks) 1 p.ke) 2 p.vs) 3 p.ve
-numbers_of End ns = ns
+abbrev pub numbers_of : std.Option Span → List ℕ → List ℕ
+numbers_of (Some p) ns = set (set (set (set ns 0 p.ks) 1 p.ke) 2 p.vs) 3 p.ve
+numbers_of None ns = ns
 
 -- the code and the numbers, before and after, are those of an answer that is right
-pub record Told (right : Answer → Type 0) (code : ℕ) (before after : List ℕ) : Type 0 where
-  pub answer : Answer
+pub record Told (right : std.Option Span → Type 0) (code : ℕ) (before after : List ℕ) : Type 0 where
+  pub answer : std.Option Span
   pub is_right : right answer
   pub code_is : code ≡ code_of answer
   pub numbers : after ≡ numbers_of answer before
 
 -- an answer with that value, in s
-pub record Value (s : Bytes) (o : Option Bytes) (a : Answer) : Type 0 where
+pub record Value (s : Bytes) (o : Option Bytes) (a : std.Option Span) : Type 0 where
   pub is : value_in s a ≡ o
   pub inside : InAnswer s a
 

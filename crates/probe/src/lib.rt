@@ -4,31 +4,18 @@
 
 ghost use Rattle.std.specs.Prelude.{◌≡◌, ◌+◌, ◌≤◌, ◌<◌, length};
 ghost use Rattle.paper.specs.Seen.{seen, scanned};
-ghost use Rattle.lsm.specs.Edges.{bound_of};
+ghost use Rattle.lsm.specs.Edges.{bound_by};
 ghost use Rattle.lsm.specs.Answers.{Says, value_in, InAnswer};
 ghost use Rattle.lsm.specs.Views.{versions_in, writes_in, Readable};
-ghost use Rattle.probe.specs.Asked.{edge_of, cursor_at, placed, view_of};
+ghost use Rattle.probe.specs.Asked.{cursor_at, placed, view_of};
 ghost use Rattle.paper.specs.Image.{verdict};
 ghost use Rattle.probe.specs.Told.{code_of, numbers_of, Told, Value, verdict_number};
 
-use lsm::answer::Answer;
-use lsm::bounds::Edge;
+use lsm::answer::Span;
+use lsm::bounds::bound_by;
 use lsm::view::View;
-use merge::heap::Cursor;
-use run::Verdict;
-
-// 0 is included, 1 excluded, anything else unbounded.
-fn edge_of(kind: u8) -> Edge
-    ensures { result ≡ edge_of kind }
-{
-    if kind == 0 {
-        return Edge::Included;
-    }
-    if kind == 1 {
-        return Edge::Excluded;
-    }
-    Edge::Unbounded
-}
+use merge::heap::{Cursor, MOST_RUNS};
+use run::BadImage;
 
 // The cursor of run i, which lies from the number at 2 i to the number at 2 i + 1.
 fn cursor_at(places: &[u64], i: usize) -> Cursor
@@ -44,22 +31,15 @@ fn cursor_at(places: &[u64], i: usize) -> Cursor
     }
 }
 
-fn cursors_of(places: &[u64]) -> [Cursor; 17]
+fn cursors_of(places: &[u64]) -> [Cursor; MOST_RUNS]
     requires { 34 ≤ length places.now }
     ensures { result ≡ placed places.now 17 }
 {
-    let mut r = [Cursor {
-        at: 0,
-        end: 0,
-        run: 0,
-    }; 17];
-    let mut i = 0;
-    while i < 17 {
-        let d = cursor_at(places, i);
-        r[i] = d;
-        i += 1;
+    let mut cursors = [Cursor::NOWHERE; MOST_RUNS];
+    for (i, c) in cursors.iter_mut().enumerate() {
+        *c = cursor_at(places, i);
     }
-    r
+    cursors
 }
 
 fn view_of(places: &[u64], runs: usize, own: usize, stop: usize, read: u64) -> View
@@ -68,27 +48,27 @@ fn view_of(places: &[u64], runs: usize, own: usize, stop: usize, read: u64) -> V
 {
     View {
         cursors: cursors_of(places),
-        runs: runs,
-        own: own,
-        stop: stop,
-        read: read,
+        runs,
+        own,
+        stop,
+        read,
     }
 }
 
 // Tells an answer by numbers.
-fn tell(a: Answer, out: &mut [u64]) -> u64
+fn tell(answer: Option<Span>, out: &mut [u64]) -> u64
     requires { 4 ≤ length out.old }
-    ensures { (result ≡ code_of a) × (out.new ≡ numbers_of a out.old) }
+    ensures { (result ≡ code_of answer) × (out.new ≡ numbers_of answer out.old) }
 {
-    match a {
-        Answer::At(p) => {
+    match answer {
+        Some(p) => {
             out[0] = p.ks as u64;
             out[1] = p.ke as u64;
             out[2] = p.vs as u64;
             out[3] = p.ve as u64;
             1
         }
-        Answer::End => 0,
+        None => 0,
     }
 }
 
@@ -108,11 +88,12 @@ pub extern "C" fn probe_scan(
     out: &mut [u64],
 ) -> u64
     requires { (34 ≤ length places.now) × (4 ≤ length out.old) × Readable s.now (view_of places.now runs own stop read) }
-    ensures { Told (Says s.now (scanned (writes_in s.now (view_of places.now runs own stop read)) (versions_in s.now (view_of places.now runs own stop read)) read (bound_of (edge_of low) lo.now) (bound_of (edge_of high) hi.now))) result out.old out.new }
+    ensures { Told (Says s.now (scanned (writes_in s.now (view_of places.now runs own stop read)) (versions_in s.now (view_of places.now runs own stop read)) read (bound_by low lo.now) (bound_by high hi.now))) result out.old out.new }
 {
     let v = view_of(places, runs, own, stop, read);
-    let a = lsm::scan::scan(s, v, edge_of(low), lo, edge_of(high), hi);
-    tell(a, out)
+    let low = bound_by(u64::from(low), lo);
+    let high = bound_by(u64::from(high), hi);
+    tell(v.scan(s, low, high), out)
 }
 
 // A get: 1 with the place of the value in s, or 0 where the key is absent.
@@ -131,8 +112,7 @@ pub extern "C" fn probe_get(
     ensures { Told (Value s.now (seen (writes_in s.now (view_of places.now runs own stop read)) (versions_in s.now (view_of places.now runs own stop read)) read key.now)) result out.old out.new }
 {
     let v = view_of(places, runs, own, stop, read);
-    let a = lsm::get::get(s, v, key);
-    tell(a, out)
+    tell(v.get(s, key), out)
 }
 
 // The verdict on an image by document 01's numbers: 0 for a good one, 10 or 11.
@@ -141,8 +121,8 @@ pub extern "C" fn probe_verdict(image: &[u8]) -> u64
     ensures { result ≡ verdict_number (verdict image.now) }
 {
     match run::image::verdict(image) {
-        Verdict::Good { latest: _ } => 0,
-        Verdict::Broken => 10,
-        Verdict::Foreign => 11,
+        Ok(_) => 0,
+        Err(BadImage::Broken) => 10,
+        Err(BadImage::Foreign) => 11,
     }
 }

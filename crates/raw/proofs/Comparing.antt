@@ -1,24 +1,26 @@
--- Comparing numbers, and byte strings byte by byte; a comparison's contract determines its answer.
+-- Comparing numbers and byte strings: std's comparisons answer as the paper's, and a comparison's contract determines its answer.
 -- Assumes nothing.
 use native.Mathlib.Omega.{arith}
 use native.Mathlib.Nat.{le_antisymm}
-use native.Mathlib.Numerals.{add-one}
-use mathlib.Core.Path.{◌≡◌, refl, sym, ap, ◌∙◌}
+use mathlib.Core.Path.{◌≡◌, refl, sym, ap, ap₂, ◌∙◌}
 use mathlib.Core.Bool.{Bool, true, false}
-use Prim.Native.Nat.{ℕ, ◌+◌, ◌≤◌, ◌<◌, compare, Ordering}
-use lib.ListN.{length, drop, get_or, drop_of_length-le}
-use lib.Seq.{drop-cons}
+use mathlib.Core.List.{[], ◌∷◌}
+use Prim.Native.Nat as nat
+use Prim.Native.Nat.{ℕ, ◌+◌, ◌≤◌, ◌<◌, compare}
 use lib.Dec.{ltb}
 use borrow.Author.Tests.{ltb-true, ltb-false}
+use Rattle.std.specs.Ordering.{nat_cmp, ordering_then, MatchOrdering}
+use Rattle.std.specs.Cmp.{ranks}
+use Rattle.std.specs.Cmp.Lexicographic.{slice_cmp}
+use Rattle.std.specs.declared.cmp.Ordering.{Ordering}
+use Rattle.std.specs.declared.cmp.Ordering.TheVariants.{Less, Equal, Greater}
 use Rattle.paper.specs.Lists.{then_by, is_lt}
 use Rattle.paper.specs.Keys.{Bytes, cmp_key}
 use Rattle.paper.proofs.Order.{turned, compare_same, compare-turn, lt-compare, compare-lt}
 use Rattle.raw.specs.Orders.{ordering}
-use Rattle.raw.specs.declared.Order.{Order}
-use Rattle.raw.specs.declared.Order.TheVariants.{Less, Equal, Greater}
 
 -- answers that say the same are the same
-pub ordering-same : (a b : Order) → ordering a ≡ ordering b → a ≡ b
+pub ordering-same : (a b : Ordering) → ordering a ≡ ordering b → a ≡ b
 ordering-same Less Less e = refl
 ordering-same Less Equal e = cc
 ordering-same Less Greater e = cc
@@ -31,14 +33,14 @@ ordering-same Greater Greater e = refl
 
 -- ---- numbers
 
-pub compare-less : (m n : ℕ) → m < n → Ordering.lt ≡ compare m n
+pub compare-less : (m n : ℕ) → m < n → nat.Ordering.lt ≡ compare m n
 compare-less m n h = sym (lt-compare m n h)
 
-pub compare-more : (m n : ℕ) → n < m → Ordering.gt ≡ compare m n
+pub compare-more : (m n : ℕ) → n < m → nat.Ordering.gt ≡ compare m n
 unfolding turned
 compare-more m n h = sym (compare-turn n m ∙ ap turned (lt-compare n m h))
 
-pub compare-like : (m n : ℕ) → m ≤ n → n ≤ m → Ordering.eq ≡ compare m n
+pub compare-like : (m n : ℕ) → m ≤ n → n ≤ m → nat.Ordering.eq ≡ compare m n
 compare-like m n h k = sym (ap (λ (i : ℕ). compare i n) (le_antisymm h k) ∙ compare_same n)
 
 -- the test on two numbers
@@ -52,35 +54,32 @@ less-than m n = go (ltb m n) refl
         not-less : n ≤ m → is_lt (compare m n) ≡ false
         not-less h = at_least (compare m n) refl
           where
-            at_least : (o : Ordering) → compare m n ≡ o → is_lt (compare m n) ≡ false
-            at_least Ordering.lt f = absurd (omega (arith, compare-lt m n f))
-            at_least Ordering.eq f = ap is_lt f
-            at_least Ordering.gt f = ap is_lt f
+            at_least : (o : nat.Ordering) → compare m n ≡ o → is_lt (compare m n) ≡ false
+            at_least nat.Ordering.lt f = absurd (omega (arith, compare-lt m n f))
+            at_least nat.Ordering.eq f = ap is_lt f
+            at_least nat.Ordering.gt f = ap is_lt f
 
--- ---- byte strings that agree up to index i
+-- std's answer is the paper's
+pub compare-numbers : (m n : ℕ) → ordering (nat_cmp m n) ≡ compare m n
+compare-numbers m n = go (nat_cmp m n) (ranks m n)
+  where
+    go : (o : Ordering) → MatchOrdering o (m < n) (m ≡ n) (n < m) → ordering o ≡ compare m n
+    go Less h = compare-less m n h
+    go Equal h = compare-like m n (omega (arith, h)) (omega (arith, h))
+    go Greater h = compare-more m n h
 
-module _ (a b : Bytes) (i : ℕ) where
-  key_step : i < length a → i < length b → cmp_key (drop i a) (drop i b) ≡ then_by (compare (get_or a i 0) (get_or b i 0)) (cmp_key (drop (i + 1) a) (drop (i + 1) b))
-  unfolding cmp_key
-  key_step h k = rw (drop-cons a i 0 h, drop-cons b i 0 k, add-one)
+-- ---- byte strings, and one comparison after another
 
-  pub key-less : i < length a → i < length b → get_or a i 0 < get_or b i 0 → cmp_key (drop i a) (drop i b) ≡ Ordering.lt
-  key-less h k l = key_step h k ∙ ap (λ o. then_by o (cmp_key (drop (i + 1) a) (drop (i + 1) b))) (sym (compare-less (get_or a i 0) (get_or b i 0) l))
+pub ordering-then : (o p : Ordering) → ordering (ordering_then o p) ≡ then_by (ordering o) (ordering p)
+ordering-then Less p = refl
+ordering-then Equal p = refl
+ordering-then Greater p = refl
 
-  pub key_more : i < length a → i < length b → get_or b i 0 < get_or a i 0 → cmp_key (drop i a) (drop i b) ≡ Ordering.gt
-  key_more h k l = key_step h k ∙ ap (λ o. then_by o (cmp_key (drop (i + 1) a) (drop (i + 1) b))) (sym (compare-more (get_or a i 0) (get_or b i 0) l))
-
-  pub key-on : i < length a → i < length b → get_or a i 0 ≤ get_or b i 0 → get_or b i 0 ≤ get_or a i 0 → cmp_key (drop i a) (drop i b) ≡ cmp_key (drop (i + 1) a) (drop (i + 1) b)
-  key-on h k l r = key_step h k ∙ ap (λ o. then_by o (cmp_key (drop (i + 1) a) (drop (i + 1) b))) (sym (compare-like (get_or a i 0) (get_or b i 0) l r))
-
-  pub key-longer : i < length a → length b ≤ i → cmp_key (drop i a) (drop i b) ≡ Ordering.gt
-  unfolding cmp_key
-  key-longer h k = rw (drop-cons a i 0 h, drop_of_length-le b k)
-
-  pub key-shorter : length a ≤ i → i < length b → cmp_key (drop i a) (drop i b) ≡ Ordering.lt
-  unfolding cmp_key
-  key-shorter h k = rw (drop_of_length-le a h, drop-cons b i 0 k)
-
-  pub key-same : length a ≤ i → length b ≤ i → cmp_key (drop i a) (drop i b) ≡ Ordering.eq
-  unfolding cmp_key
-  key-same h k = rw (drop_of_length-le a h, drop_of_length-le b k)
+-- std's answer is the paper's
+pub compare-keys : (a b : Bytes) → ordering (slice_cmp nat_cmp a b) ≡ cmp_key a b
+unfolding cmp_key
+compare-keys [] [] = refl
+compare-keys [] (y ∷ ys) = refl
+compare-keys (x ∷ xs) [] = refl
+compare-keys (x ∷ xs) (y ∷ ys) =
+    ordering-then (nat_cmp x y) (slice_cmp nat_cmp xs ys) ∙ ap₂ then_by (compare-numbers x y) (compare-keys xs ys)

@@ -5,3 +5,5 @@ pub mod Octets
 pub mod Numbers
 pub mod Moves
 pub mod Comparing
+pub mod Slices
+pub mod Saying

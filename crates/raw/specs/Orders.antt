@@ -1,10 +1,10 @@
 -- What a comparison's answer says.
 -- Assumes nothing.
-use Prim.Native.Nat.{Ordering}
-use Rattle.raw.specs.declared.Order.{Order}
-use Rattle.raw.specs.declared.Order.TheVariants.{Less, Equal, Greater}
+use Prim.Native.Nat as nat
+use Rattle.std.specs.declared.cmp.Ordering.{Ordering}
+use Rattle.std.specs.declared.cmp.Ordering.TheVariants.{Less, Equal, Greater}
 
-abbrev pub ordering : Order → Ordering
-ordering Less = Ordering.lt
-ordering Equal = Ordering.eq
-ordering Greater = Ordering.gt
+abbrev pub ordering : Ordering → nat.Ordering
+ordering Less = nat.Ordering.lt
+ordering Equal = nat.Ordering.eq
+ordering Greater = nat.Ordering.gt

@@ -1,54 +1,58 @@
 // The numbers that document 01 gives the replies.
-ghost use Rattle.std.specs.Prelude.{◌≡◌};
-ghost use Rattle.watermark.specs.Table.{number_of, added_says, removed_says, smallest_says, timestamps_says, mark_says};
+ghost use Rattle.std.specs.Prelude.{◌≡◌, MatchResult};
+ghost use Rattle.paper.specs.Refusals.{Refusal, unsound, refusal_number};
+ghost use Rattle.watermark.specs.Table.{add_refused, remove_refused};
 
-use watermark::reply::{Added, Mark, Removed, Smallest, Timestamps};
+use watermark::reply::{AddRefusal, RemoveRefusal, Unsound};
 
-pub fn added(r: Added) -> u64
-    ensures { result ≡ number_of (added_says r) }
-{
-    match r {
-        Added::Done { used: _ } => 0,
-        Added::Unsound => 9,
-        Added::Full => 5,
-        Added::CountFull => 7,
+// What a call may refuse, with its number.
+pub trait Numbered {
+    ghost refusal: { Self → Refusal };
+
+    fn number(self) -> u64
+        ensures { result ≡ refusal_number (refusal self) };
+}
+
+impl Numbered for AddRefusal {
+    ghost refusal = { add_refused };
+
+    #[tactic(auto, unfolding(paper::specs::Refusals::refusal_number, paper::specs::Refusals::room_number))]
+    fn number(self) -> u64 {
+        match self {
+            AddRefusal::Unsound => 9,
+            AddRefusal::Full => 5,
+            AddRefusal::CountFull => 7,
+        }
     }
 }
 
-pub fn removed(r: Removed) -> u64
-    ensures { result ≡ number_of (removed_says r) }
-{
-    match r {
-        Removed::Done { used: _ } => 0,
-        Removed::Unsound => 9,
-        Removed::Missing => 8,
+impl Numbered for RemoveRefusal {
+    ghost refusal = { remove_refused };
+
+    #[tactic(auto, unfolding(paper::specs::Refusals::refusal_number))]
+    fn number(self) -> u64 {
+        match self {
+            RemoveRefusal::Unsound => 9,
+            RemoveRefusal::Missing => 8,
+        }
     }
 }
 
-pub fn smallest(r: Smallest) -> u64
-    ensures { result ≡ number_of (smallest_says r) }
-{
-    match r {
-        Smallest::At { time: _ } => 0,
-        Smallest::Nobody => 0,
-        Smallest::Unsound => 9,
+impl Numbered for Unsound {
+    ghost refusal = { λ _. unsound };
+
+    #[tactic(auto, unfolding(paper::specs::Refusals::refusal_number))]
+    fn number(self) -> u64 {
+        9
     }
 }
 
-pub fn timestamps(r: Timestamps) -> u64
-    ensures { result ≡ number_of (timestamps_says r) }
+// 0, or the number of the refusal.
+pub fn number<T: Copy, E: Numbered + Copy>(reply: Result<T, E>) -> u64
+    ensures { MatchResult reply (λ _. result ≡ 0) (λ why. result ≡ refusal_number (E.refusal why)) }
 {
-    match r {
-        Timestamps::Number { count: _ } => 0,
-        Timestamps::Unsound => 9,
-    }
-}
-
-pub fn mark(r: Mark) -> u64
-    ensures { result ≡ number_of (mark_says r) }
-{
-    match r {
-        Mark::At { time: _ } => 0,
-        Mark::Unsound => 9,
+    match reply {
+        Ok(_) => 0,
+        Err(why) => why.number(),
     }
 }

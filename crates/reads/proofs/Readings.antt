@@ -8,11 +8,7 @@ use Rattle.paper.specs.Keys.{Bytes}
 use Rattle.paper.specs.Computing.{definitions}
 use Rattle.key.specs.Packing.{up_to, read_all, pack_all, packed_by}
 use Rattle.merge.specs.Cursors.{lawful, in_order}
-use Rattle.lsm.specs.Pairs.{pair_bytes, one_pair, fitting, InBytes}
-use Rattle.lsm.specs.Answers.{InAnswer}
-use Rattle.lsm.specs.declared.answer.Span.{Span}
-use Rattle.lsm.specs.declared.answer.Answer.{Answer}
-use Rattle.lsm.specs.declared.answer.Answer.TheVariants.{At}
+use Rattle.lsm.specs.Pairs.{pair_bytes, one_pair, fitting}
 use Rattle.lsm.specs.Views.{Readable}
 use Rattle.lsm.specs.declared.view.View.{View}
 use Rattle.reads.specs.Packed.{sheet_bytes, view_of}
@@ -54,7 +50,3 @@ other-readable r =
 -- the view that was made is one that can be read
 pub can-read : (s : Bytes) (v w : View) → s ≡ sheet_bytes → v ≡ w → Readable sheet_bytes w → Readable s v
 can-read s v w e f h = subst (λ (b : Bytes). Readable b v) (sym e) (subst (λ (x : View). Readable sheet_bytes x) (sym f) h)
-
--- the place of an answer that has one
-pub answer-in : (s : Bytes) (a : Answer) (p : Span) → a ≡ At p → InAnswer s a → InBytes s p
-answer-in s a p e h = subst (λ (x : Answer). InAnswer s x) e h

@@ -8,10 +8,10 @@ ghost use Rattle.lsm.specs.Answers.{InAnswer};
 ghost use Rattle.lsm.specs.Views.{Readable};
 ghost use Rattle.reads.specs.Packed.{sheet_bytes, view_of};
 
-use lsm::answer::{Answer, Span};
-use lsm::bounds::Edge;
+use lsm::answer::Span;
 use lsm::view::View;
-use merge::heap::Cursor;
+use merge::heap::{Cursor, MOST_RUNS};
+use std::ops::Bound;
 
 fn write(bytes: &[u8]) {
     io::write_all(1, bytes);
@@ -20,41 +20,29 @@ fn write(bytes: &[u8]) {
 fn write_pair(s: &[u8], p: Span)
     requires { InBytes s.now p }
 {
-    let ks = p.ks;
-    let ke = p.ke;
-    let vs = p.vs;
-    let ve = p.ve;
     write(b" ");
-    write(&s[ks..ke]);
+    write(p.key(s));
     write(b" ");
-    write(&s[vs..ve]);
+    write(p.value(s));
 }
 
-// Writes an answer and gives the next: 'from the same upper bound and the last key as an excluded lower bound'.
-fn follow(s: &[u8], v: View, a: Answer, high: Edge, hi: &[u8]) -> Answer
-    requires { Readable s.now v × InAnswer s.now a }
+// Program `answers` has these three for its own lines, which differ. Writes an answer and gives the next: 'from the same upper bound and the last key as an excluded lower bound'.
+fn follow(s: &[u8], v: &View, answer: Option<Span>, high: Bound<&[u8]>) -> Option<Span>
+    requires { Readable s.now v.now × InAnswer s.now answer }
     ensures { InAnswer s.now result }
 {
-    match a {
-        Answer::At(p) => {
-            write_pair(s, p);
-            let ks = p.ks;
-            let ke = p.ke;
-            lsm::scan::scan(s, v, Edge::Excluded, &s[ks..ke], high, hi)
-        }
-        Answer::End => Answer::End,
-    }
+    let p = answer?;
+    write_pair(s, p);
+    v.scan(s, Bound::Excluded(p.key(s)), high)
 }
 
 // The answers of a scan, nine at most.
-fn scan(s: &[u8], v: View, low: Edge, lo: &[u8], high: Edge, hi: &[u8])
+fn scan(s: &[u8], v: View, low: Bound<&[u8]>, high: Bound<&[u8]>)
     requires { Readable s.now v }
 {
-    let mut a = lsm::scan::scan(s, v, low, lo, high, hi);
-    let mut i: u64 = 0;
-    while i < 9 {
-        a = follow(s, v, a, high, hi);
-        i += 1;
+    let mut answer = v.scan(s, low, high);
+    for _ in 0..9 {
+        answer = follow(s, &v, answer, high);
     }
     write(b"\n");
 }
@@ -62,15 +50,14 @@ fn scan(s: &[u8], v: View, low: Edge, lo: &[u8], high: Edge, hi: &[u8])
 fn scan_all(s: &[u8], v: View)
     requires { Readable s.now v }
 {
-    scan(s, v, Edge::Unbounded, b"", Edge::Unbounded, b"");
+    scan(s, v, Bound::Unbounded, Bound::Unbounded);
 }
 
-fn get(s: &[u8], v: View, key: &[u8])
-    requires { Readable s.now v }
+fn get(s: &[u8], v: &View, key: &[u8])
+    requires { Readable s.now v.now }
 {
-    match lsm::get::get(s, v, key) {
-        Answer::At(p) => write_pair(s, p),
-        Answer::End => {}
+    if let Some(p) = v.get(s, key) {
+        write_pair(s, p);
     }
 }
 
@@ -78,11 +65,11 @@ fn get_all(s: &[u8], v: View)
     requires { Readable s.now v }
 {
     write(b"get");
-    get(s, v, b"");
-    get(s, v, b"fir");
-    get(s, v, b"fire");
-    get(s, v, b"oak");
-    get(s, v, b"yew");
+    get(s, &v, b"");
+    get(s, &v, b"fir");
+    get(s, &v, b"fire");
+    get(s, &v, b"oak");
+    get(s, &v, b"yew");
     write(b"\n");
 }
 
@@ -90,27 +77,23 @@ fn get_all(s: &[u8], v: View)
 fn view(at: usize, mid: usize, end: usize, own: usize, stop: usize, read: u64) -> View
     ensures { result ≡ view_of at mid end own stop read }
 {
-    let mut cursors = [Cursor {
-        at: 0,
-        end: 0,
-        run: 0,
-    }; 17];
+    let mut cursors = [Cursor::NOWHERE; MOST_RUNS];
     cursors[0] = Cursor {
-        at: at,
+        at,
         end: mid,
         run: 0,
     };
     cursors[1] = Cursor {
         at: mid,
-        end: end,
+        end,
         run: 1,
     };
     View {
-        cursors: cursors,
+        cursors,
         runs: 2,
-        own: own,
-        stop: stop,
-        read: read,
+        own,
+        stop,
+        read,
     }
 }
 
@@ -145,11 +128,11 @@ fn scan_at(s: &[u8], label: &[u8], read: u64)
     scan_all(s, plain(s, read));
 }
 
-fn scan_within(s: &[u8], label: &[u8], low: Edge, lo: &[u8], high: Edge, hi: &[u8])
+fn scan_within(s: &[u8], label: &[u8], low: Bound<&[u8]>, high: Bound<&[u8]>)
     requires { s.now ≡ sheet_bytes }
 {
     write(label);
-    scan(s, plain(s, 4), low, lo, high, hi);
+    scan(s, plain(s, 4), low, high);
 }
 
 fn unbounded(s: &[u8])
@@ -165,9 +148,9 @@ fn unbounded(s: &[u8])
 fn bounded(s: &[u8])
     requires { s.now ≡ sheet_bytes }
 {
-    scan_within(s, b"P6", Edge::Excluded, b"fir", Edge::Included, b"oak");
-    scan_within(s, b"P7", Edge::Included, b"fir", Edge::Excluded, b"oak");
-    scan_within(s, b"P8", Edge::Included, b"oak", Edge::Included, b"fir");
+    scan_within(s, b"P6", Bound::Excluded(b"fir"), Bound::Included(b"oak"));
+    scan_within(s, b"P7", Bound::Included(b"fir"), Bound::Excluded(b"oak"));
+    scan_within(s, b"P8", Bound::Included(b"oak"), Bound::Included(b"fir"));
 }
 
 fn others(s: &[u8])

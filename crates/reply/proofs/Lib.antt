@@ -2,3 +2,4 @@
 pub mod Ends
 pub mod Same
 pub mod Reading
+pub mod Numbers

@@ -1,25 +1,19 @@
 -- A contract that says what a reply tells determines the reply: two replies that tell the same are equal.
 -- Assumes nothing.
-use mathlib.Core.Path.{◌≡◌, refl, sym, ap, ◌∙◌}
-use mathlib.Core.Option.{none, some}
+use Prim.Native.Nat.{ℕ}
+use Rattle.std.specs.Prelude as std
+use Rattle.std.specs.Prelude.{Some, None, Result, Ok, Err, ⊤}
+use mathlib.Core.Path.{◌≡◌, refl, sym, ap, ap₂, ◌∙◌}
 use Rattle.paper.specs.Refusals as paper
-use Rattle.reply.specs.Told.{Told, nothing, handle, value, pair, number, why, room_of, refusal_of, told_settled, told_begun, told_got, told_scanned, told_committed}
+use Rattle.reply.specs.Told.{why, room_of, refusal_of, told_settled, told_begun, told_got, told_scanned, told_committed}
 use Rattle.reply.specs.declared.Room.{Room}
 use Rattle.reply.specs.declared.Room.TheVariants as room
 use Rattle.reply.specs.declared.Refusal.{Refusal}
 use Rattle.reply.specs.declared.Refusal.TheVariants as refusal
-use Rattle.reply.specs.declared.Settled.{Settled}
-use Rattle.reply.specs.declared.Settled.TheVariants as settled
 use Rattle.reply.specs.declared.Begun.{Begun}
-use Rattle.reply.specs.declared.Begun.TheVariants as begun
-use Rattle.reply.specs.declared.Got.{Got}
-use Rattle.reply.specs.declared.Got.TheVariants as got
-use Rattle.reply.specs.declared.Scanned.{Scanned}
-use Rattle.reply.specs.declared.Scanned.TheVariants as scanned
-use Rattle.reply.specs.declared.Committed.{Committed}
-use Rattle.reply.specs.declared.Committed.TheVariants as committed
+use Rattle.reply.specs.declared.PairLengths.{PairLengths}
 
--- ---- from what is told back to the reply
+-- ---- a refusal told back
 back_room : paper.Room → Room
 back_room paper.places = room.Places
 back_room paper.overlay = room.Overlay
@@ -75,89 +69,53 @@ back_is (refusal.BadRun n) = refl
 back_is (refusal.ForeignRun n) = refl
 back_is refusal.BadSetting = refl
 
-back_settled : Told → Settled
-back_settled nothing = settled.Done
-back_settled (handle h r) = settled.Done
-back_settled (value n) = settled.Done
-back_settled (pair p) = settled.Done
-back_settled (number n) = settled.Done
-back_settled (why r) = settled.Refused (back r)
-
-back_begun : Told → Begun
-back_begun nothing = begun.Txn 0 0
-back_begun (handle h r) = begun.Txn h r
-back_begun (value n) = begun.Txn 0 0
-back_begun (pair p) = begun.Txn 0 0
-back_begun (number n) = begun.Txn 0 0
-back_begun (why r) = begun.Refused (back r)
-
-back_got : Told → Got
-back_got nothing = got.Absent
-back_got (handle h r) = got.Absent
-back_got (value none) = got.Absent
-back_got (value (some n)) = got.Value n
-back_got (pair p) = got.Absent
-back_got (number n) = got.Absent
-back_got (why r) = got.Refused (back r)
-
-back_scanned : Told → Scanned
-back_scanned nothing = scanned.End
-back_scanned (handle h r) = scanned.End
-back_scanned (value n) = scanned.End
-back_scanned (pair none) = scanned.End
-back_scanned (pair (some p)) = scanned.Pair p.0 p.1
-back_scanned (number n) = scanned.End
-back_scanned (why r) = scanned.Refused (back r)
-
-back_committed : Told → Committed
-back_committed nothing = committed.NoWrites
-back_committed (handle h r) = committed.NoWrites
-back_committed (value n) = committed.NoWrites
-back_committed (pair p) = committed.NoWrites
-back_committed (number none) = committed.NoWrites
-back_committed (number (some n)) = committed.Number n
-back_committed (why r) = committed.Refused (back r)
-
-settled_back : (a : Settled) → back_settled (told_settled a) ≡ a
-unfolding back_settled
-settled_back settled.Done = refl
-settled_back (settled.Refused w) = ap settled.Refused (back_is w)
-
-begun-back : (a : Begun) → back_begun (told_begun a) ≡ a
-unfolding back_begun
-begun-back (begun.Txn h r) = refl
-begun-back (begun.Refused w) = ap begun.Refused (back_is w)
-
-got-back : (a : Got) → back_got (told_got a) ≡ a
-unfolding back_got
-got-back (got.Value n) = refl
-got-back got.Absent = refl
-got-back (got.Refused w) = ap got.Refused (back_is w)
-
-scanned-back : (a : Scanned) → back_scanned (told_scanned a) ≡ a
-unfolding back_scanned
-scanned-back (scanned.Pair k v) = refl
-scanned-back scanned.End = refl
-scanned-back (scanned.Refused w) = ap scanned.Refused (back_is w)
-
-committed-back : (a : Committed) → back_committed (told_committed a) ≡ a
-unfolding back_committed
-committed-back (committed.Number n) = refl
-committed-back committed.NoWrites = refl
-committed-back (committed.Refused w) = ap committed.Refused (back_is w)
+same_why : (a b : Refusal) → why (refusal_of a) ≡ why (refusal_of b) → a ≡ b
+same_why a b e = let h : refusal_of a ≡ refusal_of b = cc in sym (back_is a) ∙ ap back h ∙ back_is b
 
 -- ---- replies that tell the same are equal
-pub settled_same : (a b : Settled) → told_settled a ≡ told_settled b → a ≡ b
-settled_same a b e = sym (settled_back a) ∙ ap back_settled e ∙ settled_back b
+pub settled_same : (a b : Result ⊤ Refusal) → told_settled a ≡ told_settled b → a ≡ b
+settled_same (Ok x) (Ok y) e = refl
+settled_same (Ok x) (Err w) e = absurd (cc)
+settled_same (Err w) (Ok y) e = absurd (cc)
+settled_same (Err v) (Err w) e = ap Err (same_why v w e)
 
-pub begun-same : (a b : Begun) → told_begun a ≡ told_begun b → a ≡ b
-begun-same a b e = sym (begun-back a) ∙ ap back_begun e ∙ begun-back b
+pub begun-same : (a b : Result Begun Refusal) → told_begun a ≡ told_begun b → a ≡ b
+begun-same (Ok x) (Ok y) e =
+    let h : x.handle ≡ y.handle = cc in let k : x.read ≡ y.read = cc in ap₂ (λ (m n : ℕ). Ok (record { handle = m; read = n })) h k
+begun-same (Ok x) (Err w) e = absurd (cc)
+begun-same (Err w) (Ok y) e = absurd (cc)
+begun-same (Err v) (Err w) e = ap Err (same_why v w e)
 
-pub got_same : (a b : Got) → told_got a ≡ told_got b → a ≡ b
-got_same a b e = sym (got-back a) ∙ ap back_got e ∙ got-back b
+pub got_same : (a b : Result (std.Option ℕ) Refusal) → told_got a ≡ told_got b → a ≡ b
+got_same (Ok None) (Ok None) e = refl
+got_same (Ok None) (Ok (Some m)) e = absurd (cc)
+got_same (Ok (Some n)) (Ok None) e = absurd (cc)
+got_same (Ok (Some n)) (Ok (Some m)) e = let h : n ≡ m = cc in ap (λ (x : ℕ). Ok (Some x)) h
+got_same (Ok None) (Err w) e = absurd (cc)
+got_same (Ok (Some n)) (Err w) e = absurd (cc)
+got_same (Err w) (Ok None) e = absurd (cc)
+got_same (Err w) (Ok (Some n)) e = absurd (cc)
+got_same (Err v) (Err w) e = ap Err (same_why v w e)
 
-pub scanned-same : (a b : Scanned) → told_scanned a ≡ told_scanned b → a ≡ b
-scanned-same a b e = sym (scanned-back a) ∙ ap back_scanned e ∙ scanned-back b
+pub scanned-same : (a b : Result (std.Option PairLengths) Refusal) → told_scanned a ≡ told_scanned b → a ≡ b
+scanned-same (Ok None) (Ok None) e = refl
+scanned-same (Ok None) (Ok (Some m)) e = absurd (cc)
+scanned-same (Ok (Some n)) (Ok None) e = absurd (cc)
+scanned-same (Ok (Some x)) (Ok (Some y)) e =
+    let h : ◌≡◌ {A = ℕ × ℕ} (x.key, x.value) (y.key, y.value) = cc in ap (λ (p : ℕ × ℕ). Ok (Some (record { key = p.0; value = p.1 }))) h
+scanned-same (Ok None) (Err w) e = absurd (cc)
+scanned-same (Ok (Some n)) (Err w) e = absurd (cc)
+scanned-same (Err w) (Ok None) e = absurd (cc)
+scanned-same (Err w) (Ok (Some n)) e = absurd (cc)
+scanned-same (Err v) (Err w) e = ap Err (same_why v w e)
 
-pub committed-same : (a b : Committed) → told_committed a ≡ told_committed b → a ≡ b
-committed-same a b e = sym (committed-back a) ∙ ap back_committed e ∙ committed-back b
+pub committed-same : (a b : Result (std.Option ℕ) Refusal) → told_committed a ≡ told_committed b → a ≡ b
+committed-same (Ok None) (Ok None) e = refl
+committed-same (Ok None) (Ok (Some m)) e = absurd (cc)
+committed-same (Ok (Some n)) (Ok None) e = absurd (cc)
+committed-same (Ok (Some n)) (Ok (Some m)) e = let h : n ≡ m = cc in ap (λ (x : ℕ). Ok (Some x)) h
+committed-same (Ok None) (Err w) e = absurd (cc)
+committed-same (Ok (Some n)) (Err w) e = absurd (cc)
+committed-same (Err w) (Ok None) e = absurd (cc)
+committed-same (Err w) (Ok (Some n)) e = absurd (cc)
+committed-same (Err v) (Err w) e = ap Err (same_why v w e)

@@ -1,7 +1,8 @@
--- What a reply tells, and which reply of the paper each case of an enum is.
+-- What a reply tells, and which reply of the paper each answer and each refusal of the code is.
 -- The bytes of an answer stand in the out buffers (`value_out`, `key_out`), so the reply itself tells how many they are.
 -- Assumes nothing.
-use Rattle.std.specs.Prelude.{ℕ, length}
+use Rattle.std.specs.Prelude as std
+use Rattle.std.specs.Prelude.{ℕ, length, Some, None, Result, Ok, Err, ⊤}
 use Rattle.std.proofs.Math.Option.{Option, none, some}
 use Rattle.paper.specs.Keys.{Bytes, Pair}
 use Rattle.paper.specs.Refusals as paper
@@ -10,16 +11,8 @@ use Rattle.reply.specs.declared.Room.{Room}
 use Rattle.reply.specs.declared.Room.TheVariants as room
 use Rattle.reply.specs.declared.Refusal.{Refusal}
 use Rattle.reply.specs.declared.Refusal.TheVariants as refusal
-use Rattle.reply.specs.declared.Settled.{Settled}
-use Rattle.reply.specs.declared.Settled.TheVariants as settled
 use Rattle.reply.specs.declared.Begun.{Begun}
-use Rattle.reply.specs.declared.Begun.TheVariants as begun
-use Rattle.reply.specs.declared.Got.{Got}
-use Rattle.reply.specs.declared.Got.TheVariants as got
-use Rattle.reply.specs.declared.Scanned.{Scanned}
-use Rattle.reply.specs.declared.Scanned.TheVariants as scanned
-use Rattle.reply.specs.declared.Committed.{Committed}
-use Rattle.reply.specs.declared.Committed.TheVariants as committed
+use Rattle.reply.specs.declared.PairLengths.{PairLengths}
 
 -- ---- what a reply tells
 pub data Told : Type 0 where
@@ -81,25 +74,51 @@ refusal_of (refusal.BadRun n) = paper.bad_run n
 refusal_of (refusal.ForeignRun n) = paper.foreign_run n
 refusal_of refusal.BadSetting = paper.bad_setting
 
-abbrev pub told_settled : Settled → Told
-told_settled settled.Done = nothing
-told_settled (settled.Refused w) = why (refusal_of w)
+-- ---- what each answer tells
+abbrev pub done_told : ⊤ → Told
+done_told u = nothing
 
-abbrev pub told_begun : Begun → Told
-told_begun (begun.Txn h r) = handle h r
-told_begun (begun.Refused w) = why (refusal_of w)
+abbrev pub begun_told : Begun → Told
+begun_told b = handle b.handle b.read
 
-abbrev pub told_got : Got → Told
-told_got (got.Value n) = value (some n)
-told_got got.Absent = value none
-told_got (got.Refused w) = why (refusal_of w)
+abbrev pub got_told : std.Option ℕ → Told
+got_told (Some n) = value (some n)
+got_told None = value none
 
-abbrev pub told_scanned : Scanned → Told
-told_scanned (scanned.Pair k v) = pair (some (k, v))
-told_scanned scanned.End = pair none
-told_scanned (scanned.Refused w) = why (refusal_of w)
+abbrev pub scanned_told : std.Option PairLengths → Told
+scanned_told (Some p) = pair (some (p.key, p.value))
+scanned_told None = pair none
 
-abbrev pub told_committed : Committed → Told
-told_committed (committed.Number n) = number (some n)
-told_committed committed.NoWrites = number none
-told_committed (committed.Refused w) = why (refusal_of w)
+abbrev pub committed_told : std.Option ℕ → Told
+committed_told (Some n) = number (some n)
+committed_told None = number none
+
+-- ---- the replies: what the answer tells, or why there is none
+abbrev pub told_by : {A : Type 0} → (A → Told) → Result A Refusal → Told
+told_by f (Ok x) = f x
+told_by f (Err w) = why (refusal_of w)
+
+abbrev pub told_settled : Result ⊤ Refusal → Told
+told_settled = told_by done_told
+
+abbrev pub told_begun : Result Begun Refusal → Told
+told_begun = told_by begun_told
+
+abbrev pub told_got : Result (std.Option ℕ) Refusal → Told
+told_got = told_by got_told
+
+abbrev pub told_scanned : Result (std.Option PairLengths) Refusal → Told
+told_scanned = told_by scanned_told
+
+abbrev pub told_committed : Result (std.Option ℕ) Refusal → Told
+told_committed = told_by committed_told
+
+-- a check's answer: whether the call goes on
+abbrev pub try_of : {A : Type 0} → Result A Refusal → paper.Try A
+try_of (Ok x) = paper.go x
+try_of (Err w) = paper.stop (refusal_of w)
+
+-- ---- the number of a reply, whatever it answers
+abbrev pub number_of : {A : Type 0} → Result A Refusal → ℕ
+number_of (Ok x) = 0
+number_of (Err w) = paper.refusal_number (refusal_of w)

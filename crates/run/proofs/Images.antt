@@ -1,6 +1,7 @@
 -- What a good verdict says of an image's records, and which records make a good image.
 -- Assumes nothing.
 use native.Mathlib.Omega.{arith}
+use Rattle.std.specs.Prelude.{Ok}
 use mathlib.Core.Path.{◌≡◌, refl, sym, ap, ◌∙◌}
 use mathlib.Core.Bool.{true}
 use mathlib.Core.List.{◌++◌}
@@ -21,7 +22,6 @@ use Rattle.key.specs.Versions.{versions, packed}
 use Rattle.key.proofs.Packed.{versions-records, packed-run}
 use Rattle.run.specs.Checks.{whole_run, told}
 use Rattle.run.specs.Writing.{head_bytes}
-use Rattle.run.specs.declared.Verdict.TheVariants.{Good}
 use Rattle.run.proofs.Reading.{versions-count}
 use Rattle.run.proofs.Judging.{whole_is, is-whole}
 use Rattle.run.proofs.Writing.{length-head, image-parts, image-packed}
@@ -60,12 +60,12 @@ good-holds s r o e =
     }
 
 -- what the code's answer says
-told_is : (o : paper.Verdict) (n : ℕ) → Good n ≡ told o → (r : Run) × (o ≡ good r) × (n ≡ latest r)
+told_is : (o : paper.Verdict) (n : ℕ) → Ok n ≡ told o → (r : Run) × (o ≡ good r) × (n ≡ latest r)
 told_is (good r) n e = (r, refl, cc)
-told_is broken n e = let z : ◌≡◌ {A = ℕ} 0 1 = cc in absurd (omega arith)
-told_is foreign n e = let z : ◌≡◌ {A = ℕ} 0 1 = cc in absurd (omega arith)
+told_is broken n e = cc
+told_is foreign n e = cc
 
-pub told-holds : (s : Bytes) (n : ℕ) → octets s ≡ true → Good n ≡ told (verdict s) → (r : Run) × (verdict s ≡ good r) × (n ≡ latest r) × Holds s r
+pub told-holds : (s : Bytes) (n : ℕ) → octets s ≡ true → Ok n ≡ told (verdict s) → (r : Run) × (verdict s ≡ good r) × (n ≡ latest r) × Holds s r
 told-holds s n o e =
     let (r, g, l) = told_is (verdict s) n e in
     (r, g, l, good-holds s r o g)

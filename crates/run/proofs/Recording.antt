@@ -17,8 +17,8 @@ use Rattle.key.specs.declared.Place.{Place}
 use Rattle.key.proofs.Records.{key_length, value_length, bytes-here, number-here, here}
 use Rattle.key.proofs.Placing.{place_of, placed, placed_same}
 use Rattle.run.specs.Records.{Within, Recorded}
-use Rattle.run.specs.declared.record.Record.{Record}
-use Rattle.run.specs.declared.record.Record.TheVariants.{Whole, Cut}
+use Rattle.std.specs.Prelude.{Some, None}
+use Rattle.std.specs.Prelude as std
 
 -- ---- to the end of the bytes
 
@@ -93,8 +93,8 @@ module _ (s : Bytes) (at end : ℕ) (fit : end ≤ length s) where
       }
 
 -- ---- the contract tells one answer
-pub recorded-same : (s : Bytes) (at end : ℕ) (a b : Record) → Recorded s at end a → Recorded s at end b → a ≡ b
-recorded-same s at end (Whole p) (Whole q) h k = ap Whole (placed_same s at p q h.there k.there)
-recorded-same s at end (Whole p) Cut h k = absurd (none-ne-some _ (sym k ∙ h.read))
-recorded-same s at end Cut (Whole q) h k = absurd (none-ne-some _ (sym h ∙ k.read))
-recorded-same s at end Cut Cut h k = refl
+pub recorded-same : (s : Bytes) (at end : ℕ) (a b : std.Option Place) → Recorded s at end a → Recorded s at end b → a ≡ b
+recorded-same s at end (Some p) (Some q) h k = ap Some (placed_same s at p q h.there k.there)
+recorded-same s at end (Some p) None h k = absurd (none-ne-some _ (sym k ∙ h.read))
+recorded-same s at end None (Some q) h k = absurd (none-ne-some _ (sym h ∙ k.read))
+recorded-same s at end None None h k = refl

@@ -1,12 +1,12 @@
 -- Seeking in packed records: those passed stand before the version sought, and from the first that does not, none does.
 -- Assumes nothing.
 use native.Mathlib.Omega.{arith}
-use mathlib.Core.Path.{◌≡◌, refl, sym, ap, ap₂, ◌∙◌}
+use mathlib.Core.Path.{◌≡◌, refl, sym, ap, ap₂, ◌∙◌, subst}
 use mathlib.Core.Bool.{Bool, true, false, not, cond, false≢true}
 use mathlib.Core.List.{[], ◌∷◌, ◌++◌, append_assoc}
 use Prim.Native.Nat.{ℕ, ◌+◌, ◌-◌, ◌≤◌, ◌<◌}
 use lib.ListN.{length, take, length-append}
-use lib.Seq.{take_at}
+use lib.Seq.{take_at, length-take-le}
 use Rattle.paper.specs.Lists.{is_lt, all, keep, rises, rises_from}
 use Rattle.paper.specs.Keys.{Bytes, Version, cmp_version}
 use Rattle.paper.specs.Runs.{Run, is_run}
@@ -16,7 +16,7 @@ use Rattle.paper.proofs.Alls.{all_keep}
 use Rattle.paper.proofs.KeyOrder.{version-order}
 use Rattle.paper.proofs.Rising.{keep-rises}
 use Rattle.raw.specs.Bytes.{part}
-use Rattle.raw.proofs.Parts.{length_part, part-append}
+use Rattle.raw.proofs.Parts.{length_part, part-append, part-take}
 use Rattle.key.specs.Versions.{versions, packed}
 use Rattle.key.specs.Places.{version_in, Placed}
 use Rattle.key.specs.declared.Place.{Place}
@@ -61,9 +61,6 @@ pub record Passing (s : Bytes) (from end : ℕ) (v : Version) (at : ℕ) : Type 
   pub kept : keep (is_from v) (versions (part s at (end - at))) ≡ keep (is_from v) (versions (part s from (end - from)))
 
 module _ (s : Bytes) (from end : ℕ) (v : Version) (fit : end ≤ length s) where
-  pub seek-start : from ≤ end → packed (part s from (end - from)) ≡ true → Passing s from end v from
-  seek-start h w = record { low = omega arith; high = h; whole = w; kept = refl }
-
   module _ (at : ℕ) (so : Passing s from end v at) where
     pub seek-end : end ≤ at → Sought s from end v at
     unfolding keep
@@ -96,6 +93,39 @@ module _ (s : Bytes) (from end : ℕ) (v : Version) (fit : end ≤ length s) whe
                 ∙ sym (run-from v (version_in s p) (versions (part s p.ve (end - p.ve))) (ap is_run (sym first_then) ∙ (packed-run (part s at (end - at)) so.whole).1) h)
                 ∙ sym (ap (keep (is_from v)) first_then) ∙ so.kept;
           }
+
+-- ---- by the places in the bytes up to the end
+module _ (s : Bytes) (from end : ℕ) (v : Version) (fit : end ≤ length s) where
+  long : length (take end s) ≡ end
+  long = length-take-le end s fit
+
+  -- it is found in the bytes too
+  sought-front : (r : ℕ) → from ≤ end → Sought (take end s) from end v r → Sought s from end v r
+  sought-front r l h =
+      let a : part (take end s) r (end - r) ≡ part s r (end - r) = part-take s end r (end - r) (omega (arith, h.high)) in
+      let b : part (take end s) from (end - from) ≡ part s from (end - from) = part-take s end from (end - from) (omega arith) in
+      record { low = h.low; high = h.high; whole = ap packed (sym a) ∙ h.whole; found = ap versions (sym a) ∙ h.found ∙ ap (λ (x : Bytes). keep (is_from v) (versions x)) b }
+
+  pub seek-none : (at : ℕ) → from ≤ end → Passing (take end s) from end v at → length (take end s) ≤ at → Sought s from end v end
+  seek-none at l so h =
+      let z : at ≡ end = omega (arith, so.high, long) in
+      sought-front end l (subst (Sought (take end s) from end v) z (seek-end (take end s) from end v (omega (arith, long)) at so (omega (arith, long))))
+
+  module _ (at : ℕ) (so : Passing (take end s) from end v at) (b : Bytes) (same : b ≡ take end s) (p : Place) (placed : Placed b at p) where
+    there : Placed (take end s) at p
+    there = subst (λ (x : Bytes). Placed x at p) same placed
+
+    l : at < end
+    l = let h = there in omega (arith, h.start, h.key, h.mid, h.value, h.inside, long)
+
+    pub seek-at : from ≤ end → is_before (version_in (take end s) p) v ≡ false → Sought s from end v (p.ks - 2)
+    seek-at f e =
+        let h = there in
+        let z : at ≡ p.ks - 2 = omega (arith, h.start) in
+        sought-front (p.ks - 2) f (subst (Sought (take end s) from end v) z (seek_stop (take end s) from end v (omega (arith, long)) at so l p there e))
+
+    pub seek-on : is_before (version_in (take end s) p) v ≡ true → (i : ℕ) → i ≡ p.ve → Passing (take end s) from end v i
+    seek-on e i z = subst (Passing (take end s) from end v) (sym z) (seek-next (take end s) from end v (omega (arith, long)) at so l p there e)
 
 -- ---- what was found
 

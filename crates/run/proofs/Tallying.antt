@@ -1,7 +1,7 @@
 -- Versions counted one after the other, and the turns of the loop that counts packed ones.
 -- Assumes nothing.
 use native.Mathlib.Omega.{arith}
-use mathlib.Core.Path.{◌≡◌, sym, ap, ◌∙◌}
+use mathlib.Core.Path.{◌≡◌, sym, ap, ◌∙◌, subst}
 use mathlib.Core.Bool.{true}
 use mathlib.Core.List.{[], ◌∷◌}
 use Prim.Native.Nat.{ℕ, ◌+◌, ◌-◌, ◌≤◌, ◌<◌, min, max}
@@ -11,7 +11,6 @@ use Rattle.paper.specs.Runs.{Run}
 use Rattle.paper.specs.Settings.{most_number}
 use Rattle.paper.specs.Store.{latest}
 use Rattle.raw.specs.Bytes.{part}
-use Rattle.raw.proofs.Parts.{length_part}
 use Rattle.key.specs.Versions.{version_at, versions, packed}
 use Rattle.key.specs.Places.{Placed}
 use Rattle.key.specs.declared.Place.{Place}
@@ -19,7 +18,7 @@ use Rattle.key.proofs.Placing.{version-placed}
 use Rattle.key.proofs.Packed.{versions-nil, versions-step, onward-order, onward-packed}
 use Rattle.run.specs.Tallies.{earliest, tally_of, counted}
 use Rattle.run.specs.declared.tally.Tally.{Tally}
-use Rattle.run.proofs.Reading.{versions-count}
+use Rattle.run.proofs.Reading.{part-rest, versions-count}
 
 -- a tally with the versions of a run counted too
 abbrev pub onto : Tally → Run → Tally
@@ -54,43 +53,57 @@ onto-count t (v ∷ vs) = onto-count (counted t v.time) vs ∙ omega arith
 
 -- ---- the loop
 
--- the packed records from at to end are counted up to i
-pub record Tallied (s : Bytes) (at end : ℕ) (t : Tally) (i : ℕ) : Type 0 where
-  pub ahead : i ≤ end
-  pub whole : packed (part s i (end - i)) ≡ true
-  pub counts : onto t (versions (part s i (end - i))) ≡ tally_of (versions (part s at (end - at)))
+-- the packed records are counted up to i
+pub record Tallied (s : Bytes) (t : Tally) (i : ℕ) : Type 0 where
+  pub ahead : i ≤ length s
+  pub whole : packed (part s i (length s - i)) ≡ true
+  pub counts : onto t (versions (part s i (length s - i))) ≡ tally_of (versions s)
 
-module _ (s : Bytes) (at end : ℕ) (order : at ≤ end) (fit : end ≤ length s) where
-  pub tally-start : (t : Tally) → packed (part s at (end - at)) ≡ true → t ≡ tally_of [] → Tallied s at end t at
+module _ (s : Bytes) where
+  pub tally-start : (t : Tally) → packed s ≡ true → t ≡ tally_of [] → Tallied s t 0
   tally-start t w e =
       record {
-        ahead = order;
-        whole = w;
-        counts = ap (λ (u : Tally). onto u (versions (part s at (end - at)))) e ∙ tally-all (versions (part s at (end - at)));
+        ahead = omega arith;
+        whole = ap packed (part-rest s 0) ∙ w;
+        counts = ap (λ (u : Tally). onto u (versions (part s 0 (length s - 0)))) e ∙ tally-all (versions (part s 0 (length s - 0))) ∙ ap (λ (b : Bytes). tally_of (versions b)) (part-rest s 0);
       }
 
-  module _ (t : Tally) (i : ℕ) (so : Tallied s at end t i) where
-    pub tally-done : end ≤ i → t ≡ tally_of (versions (part s at (end - at)))
+  module _ (t : Tally) (i : ℕ) (so : Tallied s t i) where
+    pub tally-done : length s ≤ i → t ≡ tally_of (versions s)
     tally-done h =
-        let z : end - i ≡ 0 = omega (arith, so.ahead) in
+        let z : length s - i ≡ 0 = omega (arith, so.ahead) in
         sym (ap (λ (n : ℕ). onto t (versions (part s i n))) z ∙ ap (onto t) versions-nil) ∙ so.counts
 
-    module _ (l : i < end) (p : Place) (there : Placed s i p) where
-      rest : versions (part s i (end - i)) ≡ version_at s i ∷ versions (part s p.ve (end - p.ve))
-      rest = versions-step s i end l fit so.whole p there
+    module _ (l : i < length s) (p : Place) (there : Placed s i p) where
+      rest : versions (part s i (length s - i)) ≡ version_at s i ∷ versions (part s p.ve (length s - p.ve))
+      rest = versions-step s i (length s) l (omega arith) so.whole p there
 
       -- the count fits, as there are at least as many bytes
       pub tally-fits : t.count < length s
       unfolding tally_of
       tally-fits =
-          omega (arith, sym (onto-count t (versions (part s i (end - i)))) ∙ ap (λ (u : Tally). u.count) so.counts, ap (λ (r : Run). length r) rest, versions-count (part s at (end - at)), length_part s at (end - at) (omega arith))
+          omega (arith, sym (onto-count t (versions (part s i (length s - i)))) ∙ ap (λ (u : Tally). u.count) so.counts, ap (λ (r : Run). length r) rest, versions-count s)
 
-      pub tally-next : (u : Tally) → u ≡ counted t p.time → Tallied s at end u p.ve
+      pub tally-next : (u : Tally) → u ≡ counted t p.time → Tallied s u p.ve
       tally-next u e =
           record {
-            ahead = onward-order s i end l fit so.whole p there;
-            whole = onward-packed s i end l fit so.whole p there;
+            ahead = onward-order s i (length s) l (omega arith) so.whole p there;
+            whole = onward-packed s i (length s) l (omega arith) so.whole p there;
             counts =
-                ap (λ (w : Tally). onto w (versions (part s p.ve (end - p.ve)))) (e ∙ ap (λ (v : Version). counted t v.time) (sym (version-placed s i p there)))
+                ap (λ (w : Tally). onto w (versions (part s p.ve (length s - p.ve)))) (e ∙ ap (λ (v : Version). counted t v.time) (sym (version-placed s i p there)))
                 ∙ sym (ap (onto t) rest) ∙ so.counts;
           }
+
+-- by the place that was handed out, in the same bytes
+module _ (s : Bytes) (t : Tally) (i : ℕ) (so : Tallied s t i) (b : Bytes) (same : b ≡ s) (p : Place) (placed : Placed b i p) where
+  here : Placed s i p
+  here = subst (λ (x : Bytes). Placed x i p) same placed
+
+  l : i < length s
+  l = let h = here in omega (arith, h.start, h.key, h.mid, h.value, h.inside)
+
+  pub placed-fits : t.count < length s
+  placed-fits = tally-fits s t i so l p here
+
+  pub placed-next : (u : Tally) → u ≡ counted t p.time → (j : ℕ) → j ≡ p.ve → Tallied s u j
+  placed-next u e j z = subst (Tallied s u) (sym z) (tally-next s t i so l p here u e)

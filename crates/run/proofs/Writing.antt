@@ -20,9 +20,6 @@ use Rattle.run.specs.Writing.{field_bytes, head_bytes}
 length-field : (x : Bytes) → length (field_bytes x) ≡ 2 + length x
 length-field x = length-append (big_endian 2 (length x)) x ∙ ap (λ (n : ℕ). n + length x) (length-big_endian 2 (length x))
 
-pub put-field : (l : Bytes) (at : ℕ) (x : Bytes) → at ≤ length l → over (over l at (big_endian 2 (length x))) (at + 2) x ≡ over l at (field_bytes x)
-put-field l at x h = over-after l at (big_endian 2 (length x)) h (at + 2) x (omega (arith, length-big_endian 2 (length x)))
-
 record-fields : (k : Bytes) (t : ℕ) (v : Bytes) → (field_bytes k ++ big_endian 8 t) ++ field_bytes v ≡ record_bytes (record { key = k; time = t; value = v })
 unfolding record_bytes
 record-fields k t v = append_assoc (field_bytes k) (big_endian 8 t) (field_bytes v) ∙ append_assoc (big_endian 2 (length k)) k (big_endian 8 t ++ field_bytes v)

@@ -7,44 +7,31 @@ ghost use Rattle.key.specs.Places.{version_in};
 ghost use Rattle.run.specs.Records.{Recorded, KeyIn};
 
 use key::{KeyStamp, Place};
-use raw::Order;
 
-// A whole record, by the place of its parts; or none, because the bytes end before it does.
-#[derive(Clone, Copy)]
-pub enum Record {
-    Whole { place: Place },
-    Cut,
-}
-
-// The record at `at` of the bytes that end at `end`.
-pub fn record_at(s: &[u8], at: usize, end: usize) -> Record
-    requires { (at ≤ end) × (end ≤ length s.now) }
-    ensures { Recorded s.now at end result }
+// The record at `at`, by the place of its parts; none where the bytes end before it does.
+pub fn record_at(s: &[u8], at: usize) -> Option<Place>
+    requires { at ≤ length s.now }
+    ensures { Recorded s.now at (length s.now) result }
 {
-    if end - at < 12 {
-        return Record::Cut;
-    }
-    let ks = at + 2;
+    let rest = (s.len() - at).checked_sub(12)?;
     let n = raw::length_at(s, at);
-    if end - at - 12 < n {
-        return Record::Cut;
-    }
+    let rest = rest.checked_sub(n)?;
+    let ks = at + 2;
     let ke = ks + n;
-    let time = raw::be64(s, ke);
-    let vs = ke + 10;
+    let time = raw::number::<8>(s, ke);
     let m = raw::length_at(s, ke + 8);
-    if end - vs < m {
-        return Record::Cut;
+    if rest < m {
+        return None;
     }
-    Record::Whole {
-        place: Place {
-            ks: ks,
-            ke: ke,
-            time: time,
-            vs: vs,
-            ve: vs + m,
-        },
-    }
+    let vs = ke + 10;
+    let ve = vs + m;
+    Some(Place {
+        ks,
+        ke,
+        time,
+        vs,
+        ve,
+    })
 }
 
 // Whether the version at p stands before a key at a stamp.
@@ -52,11 +39,7 @@ pub fn is_before(s: &[u8], p: Place, key: &[u8], stamp: KeyStamp) -> bool
     requires { KeyIn s.now p }
     ensures { result ≡ is_lt (cmp_version (version_in s.now p) (stamped key.now stamp)) }
 {
-    let ks = p.ks;
-    let ke = p.ke;
-    match raw::compare(&s[ks..ke], key) {
-        Order::Less => true,
-        Order::Greater => false,
-        Order::Equal => stamp.time < p.time,
-    }
+    raw::compare(&s[p.ks..p.ke], key)
+        .then(KeyStamp::new(p.time).cmp(&stamp))
+        .is_lt()
 }

@@ -3,7 +3,7 @@ ghost use Rattle.std.specs.Prelude.{◌≡◌, true, ◌+◌, ◌-◌, ◌≤◌
 ghost use Rattle.paper.specs.Image.{record_bytes, image_of};
 ghost use Rattle.raw.specs.Bytes.{part, over};
 ghost use Rattle.key.specs.Versions.{versions, packed};
-ghost use Rattle.run.specs.Writing.{field_bytes, head_bytes};
+ghost use Rattle.run.specs.Writing.{head_bytes};
 
 // Writes a record at `at`.
 pub fn put_record(s: &mut [u8], at: usize, key: &[u8], time: u64, value: &[u8])
@@ -12,18 +12,9 @@ pub fn put_record(s: &mut [u8], at: usize, key: &[u8], time: u64, value: &[u8])
 {
     let k = at + 2;
     let t = k + key.len();
-    put_field(s, at, key);
-    raw::put_be64(s, t, time);
-    put_field(s, t + 8, value);
-}
-
-// Writes a length of 16 bits and as many bytes.
-fn put_field(s: &mut [u8], at: usize, x: &[u8])
-    requires { at + (2 + length x.now) ≤ length s.old }
-    ensures { s.new ≡ over s.old at (field_bytes x.now) }
-{
-    raw::put_be16(s, at, x.len() as u64);
-    raw::copy_at(s, at + 2, x);
+    raw::put_sized::<2>(s, at, key);
+    raw::put_number::<8>(s, t, time);
+    raw::put_sized::<2>(s, t + 8, value);
 }
 
 // Writes an image's head at `at`: mark, version, count of records.
@@ -32,16 +23,16 @@ pub fn put_head(s: &mut [u8], at: usize, count: u64)
     ensures { s.new ≡ over s.old at (head_bytes count) }
 {
     raw::copy_at(s, at, b"RUN");
-    raw::put_be16(s, at + 3, 1);
-    raw::put_be32(s, at + 5, count);
+    raw::put_number::<2>(s, at + 3, 1);
+    raw::put_number::<4>(s, at + 5, count);
 }
 
-// Freezes the packed records from `from` to `end`: writes the image of their run at `to`. The two places may overlap.
+// Freezes the packed records from `from` to `end`: writes the image of their run at `to`. The two places may overlap, so they are places in one slice.
 pub fn freeze_into(s: &mut [u8], to: usize, from: usize, end: usize)
     requires { (from ≤ end) × (end ≤ length s.old) × (to + (9 + (end - from)) ≤ length s.old) × (packed (part s.old from (end - from)) ≡ true) }
     ensures { s.new ≡ over s.old to (image_of (versions (part s.old from (end - from)))) }
 {
-    let count = crate::tally::count_records(s, from, end);
+    let count = crate::tally::count_records(&s[from..end]);
     raw::shift(s, from, to + 9, end - from);
     put_head(s, to, count as u64);
 }

@@ -3,7 +3,6 @@ pub mod Lendable
 pub mod OnStore
 pub mod Opening
 pub mod Showing
-pub mod ByCase
 pub mod Answers
 pub mod Dispatch
 pub mod Running

@@ -1,66 +1,44 @@
 -- The lines of a script, one after the other: what is shown, and what is left to read.
 -- Assumes nothing.
-use native.Mathlib.Omega.{arith}
 use native.Mathlib.Numerals.{add-one}
 use mathlib.Core.Path.{◌≡◌, refl, sym, ap, ap₂, ◌∙◌}
 use mathlib.Core.List.{List, [], ◌∷◌, ◌++◌, append_assoc, append-nil}
-use Prim.Native.Nat.{ℕ, suc, ◌+◌, ◌-◌, ◌≤◌, ◌<◌}
-use lib.ListN.{length, drop, length-drop}
+use Prim.Native.Nat.{ℕ, suc, ◌+◌}
 use Rattle.paper.specs.Keys.{Bytes}
-use Rattle.paper.specs.Replay.{pieces, lines_of, output_line}
-use Rattle.raw.specs.Bytes.{part}
-use Rattle.words.specs.Fields.{up_to}
-use Rattle.words.proofs.Pieces.{up_to-short}
-use Rattle.words.proofs.Lines.{lines_next, lines_end}
-use Rattle.printing.specs.Shown.{shown}
-use Rattle.printing.proofs.Showing.{shown-nothing}
-use Rattle.script.specs.OnLines.{on_line, lines_on, line_on}
-use Rattle.script.proofs.Showing.{Showed, followed}
+use Rattle.paper.specs.Replay.{output_line}
+use Rattle.printing.specs.Shows.{Shows}
+use Rattle.printing.specs.declared.Page.{Page}
+use Rattle.printing.proofs.Showing.{shown-nothing, shows_both, shows_as}
+use Rattle.script.specs.OnLines.{on_line, lines_on}
+use Rattle.script.specs.OnPages.{AnswersLine}
 
-abbrev lines_from : Bytes → ℕ → List Bytes
-lines_from input from = lines_of (pieces 10 (drop from input))
-
--- with the bytes b and the buffer out at the start: a and l after the lines before index from of the input, of which there are number - 1
-pub record Running (input b out : Bytes) (from number at : ℕ) (a l : Bytes) : Type 0 where
+-- with the bytes b and the page p at the start: a and q after the first n of the lines ls, where these are left
+pub record Running (ls : List Bytes) (b : Bytes) (p : Page) (n : ℕ) (a : Bytes) (q : Page) (left : List Bytes) : Type 0 where
   pub sofar : Bytes
-  pub shows : Showed out 0 sofar l at
-  pub rest : lines_on 1 b (lines_of (pieces 10 input)) ≡ sofar ++ lines_on number a (lines_from input from)
-  pub counted : number ≤ from + 1
+  pub shows : Shows p q sofar
+  pub rest : lines_on 1 b ls ≡ sofar ++ lines_on (n + 1) a left
 
--- where a line ends that starts at index from
-pub line-end : (input : Bytes) (from e : ℕ) → from < length input → e ≡ from + length (up_to 10 (drop from input)) → (from ≤ e) × (e ≤ length input)
-line-end input from e h q =
-    let d : length (drop from input) ≡ length input - from = length-drop from input in
-    let u : length (up_to 10 (drop from input)) ≤ length (drop from input) = up_to-short 10 (drop from input) in
-    (omega arith, omega arith)
+module _ (ls : List Bytes) (b : Bytes) (p : Page) where
+  pub start : Running ls b p 0 b p ls
+  start = record { sofar = []; shows = record { same_buffer = refl; text = sym (shown-nothing p.out.now p.at) }; rest = refl }
 
-module _ (input b out : Bytes) where
-  pub start : Running input b out 0 1 0 b out
-  start = record { sofar = []; shows = sym (shown-nothing out 0); rest = refl; counted = omega arith }
-
-  module _ {from number at : ℕ} {a l : Bytes} (r : Running input b out from number at a l) where
-    -- one line, which ends at index e
-    pub step : {c m : Bytes} {i : ℕ} → from < length input → (e : ℕ) → e ≡ from + length (up_to 10 (drop from input))
-        → ◌≡◌ {A = Bytes × (Bytes × ℕ)} (c, (m, i)) (line_on number (part input from (e - from)) a l at) → Running input b out (e + 1) (number + 1) i c m
-    unfolding line_on lines_on
-    step {c} {m} {i} h e q f =
-        let x : Bytes = part input from (e - from) in
-        let y : Bytes = output_line number (on_line x a).0 in
-        let z : Bytes = lines_on (suc number) (on_line x a).1 (lines_from input (e + 1)) in
-        let n : lines_from input from ≡ x ∷ lines_from input (e + 1) = lines_next input from e h q ∙ ap (λ (k : ℕ). x ∷ lines_from input k) (sym (add-one e)) in
+  module _ {n : ℕ} {a : Bytes} {q : Page} {left : List Bytes} (r : Running ls b p n a q left) where
+    -- one line more, which is x
+    pub step : (x : Bytes) (xs : List Bytes) → left ≡ x ∷ xs → {c : Bytes} {s : Page} → AnswersLine (n + 1) x a q c s → Running ls b p (n + 1) c s xs
+    unfolding lines_on
+    step x xs e {c} {s} f =
+        let y : Bytes = output_line (n + 1) (on_line x a).0 in
+        let z : Bytes = lines_on (suc (n + 1)) (on_line x a).1 xs in
         record {
           sofar = r.sofar ++ y;
-          shows = followed out 0 r.sofar y r.shows (ap (λ p. p.1) f);
+          shows = shows_both r.sofar y r.shows f.page;
           rest = r.rest
-              ∙ ap (λ (ls : List Bytes). r.sofar ++ lines_on number a ls) n
+              ∙ ap (λ (ws : List Bytes). r.sofar ++ lines_on (n + 1) a ws) e
               ∙ sym (append_assoc r.sofar y z)
-              ∙ ap₂ (λ (k : ℕ) (s : Bytes). (r.sofar ++ y) ++ lines_on k s (lines_from input (e + 1))) (sym (add-one number)) (sym (ap (λ p. p.0) f));
-          counted = omega (arith, r.counted, (line-end input from e h q).0);
+              ∙ ap₂ (λ (k : ℕ) (t : Bytes). (r.sofar ++ y) ++ lines_on k t xs) (sym (add-one (n + 1))) (sym f.state);
         }
 
     -- no line is left
-    pub finish : length input ≤ from → Showed out 0 (lines_on 1 b (lines_of (pieces 10 input))) l at
+    pub finish : left ≡ [] → Shows p q (lines_on 1 b ls)
     unfolding lines_on
-    finish h =
-        r.shows
-        ∙ ap (shown out 0) (sym (r.rest ∙ ap (λ (ls : List Bytes). r.sofar ++ lines_on number a ls) (lines_end input from h) ∙ append-nil r.sofar))
+    finish e = shows_as (sym (r.rest ∙ ap (λ (ws : List Bytes). r.sofar ++ lines_on (n + 1) a ws) e ∙ append-nil r.sofar)) r.shows

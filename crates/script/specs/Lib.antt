@@ -1,3 +1,4 @@
 -- A script on the bytes of a state.
 pub mod OnLines
+pub mod OnPages
 pub mod Inside

@@ -7,7 +7,6 @@ use Rattle.paper.specs.Refusals.{not_understood}
 use Rattle.paper.specs.Calls.{Reply, refused, Call, reply_number}
 use Rattle.paper.specs.Replay.{pieces, line_call, decimal_of, fields_of, spaced, output_line}
 use Rattle.layout.specs.Layout.{on_bytes}
-use Rattle.printing.specs.Shown.{shown}
 
 -- 'script line not understood (program only; the next line is still read)': 13, and nothing is written
 unfoldable pub on_call : Option Call → Bytes → Reply × Bytes
@@ -27,11 +26,3 @@ lines_on n b (l ∷ ls) = let further = lines_on (suc n) (on_line l b).1 ls in o
 -- what stands behind the line number: 'return number, then only on 0: ..'
 unfoldable pub behind_number : Reply → Bytes
 behind_number r = spaced (decimal_of (reply_number r) ∷ fields_of r)
-
--- what a call leaves: the state's bytes, the out buffer with the rest of the line, and the index behind it
-unfoldable pub answer_on : Option Call → Bytes → Bytes → ℕ → Bytes × (Bytes × ℕ)
-answer_on c b out at = ((on_call c b).1, shown out at (behind_number (on_call c b).0))
-
--- what a line leaves
-unfoldable pub line_on : ℕ → Bytes → Bytes → Bytes → ℕ → Bytes × (Bytes × ℕ)
-line_on n l b out at = ((on_line l b).1, shown out at (output_line n (on_line l b).0))

@@ -5,110 +5,131 @@ ghost use Rattle.paper.specs.Keys.{Bytes};
 ghost use Rattle.paper.specs.Replay.{decimal_of, spaced};
 ghost use Rattle.reply.specs.Told.{told_settled, told_begun, told_got, told_scanned, told_committed};
 ghost use Rattle.reply.specs.Read.{reply_read};
-ghost use Rattle.printing.specs.Shown.{shown};
+ghost use Rattle.printing.specs.Shows.{Shows};
 ghost use Rattle.script.specs.OnLines.{behind_number};
 ghost use Rattle.script.specs.Inside.{Inside};
 
-use reply::{Begun, Committed, Got, Scanned, Settled};
+use printing::Page;
+use reply::{Begun, PairLengths, Refusal};
 
 // ---- the fields
 
+// A field of the line: a text as it is, or a number in decimal.
+trait Field {
+    ghost text: { Self → Bytes };
+
+    fn show(self, page: &mut Page<'_>)
+        ensures { Shows page.old page.new (32 ∷ text self) };
+}
+
+impl Field for u64 {
+    ghost text = { decimal_of };
+
+    fn show(self, page: &mut Page<'_>) {
+        page.number(self);
+    }
+}
+
+impl Field for &[u8] {
+    ghost text = { λ x. x.now };
+
+    fn show(self, page: &mut Page<'_>) {
+        page.word(self);
+    }
+}
+
 // The return number alone.
-pub fn only(out: &mut [u8], at: usize, number: u64) -> usize
-    ensures { ◌≡◌ {A = Bytes × ℕ} (out.new, result) (shown out.old at (spaced (decimal_of number ∷ []))) }
+pub fn only(page: &mut Page<'_>, number: u64)
+    ensures { Shows page.old page.new (spaced (decimal_of number ∷ [])) }
 {
-    let end = printing::number(out, at, number);
-    printing::text(out, end, b"\n")
+    page.number(number);
+    page.text(b"\n");
 }
 
-// On 0, with one text.
-fn with_text(out: &mut [u8], at: usize, x: &[u8]) -> usize
-    ensures { ◌≡◌ {A = Bytes × ℕ} (out.new, result) (shown out.old at (spaced (decimal_of 0 ∷ x.now ∷ []))) }
+// On 0, with one field.
+fn with_field<F: Field>(page: &mut Page<'_>, x: F)
+    ensures { Shows page.old page.new (spaced (decimal_of 0 ∷ F.text x ∷ [])) }
 {
-    let first = printing::text(out, at, b" 0");
-    let end = printing::word(out, first, x);
-    printing::text(out, end, b"\n")
+    page.text(b" 0");
+    x.show(page);
+    page.text(b"\n");
 }
 
-// On 0, with two texts.
-fn with_texts(out: &mut [u8], at: usize, x: &[u8], y: &[u8]) -> usize
-    ensures { ◌≡◌ {A = Bytes × ℕ} (out.new, result) (shown out.old at (spaced (decimal_of 0 ∷ x.now ∷ y.now ∷ []))) }
+// On 0, with two fields.
+fn with_fields<F: Field>(page: &mut Page<'_>, x: F, y: F)
+    ensures { Shows page.old page.new (spaced (decimal_of 0 ∷ F.text x ∷ F.text y ∷ [])) }
 {
-    let first = printing::text(out, at, b" 0");
-    let second = printing::word(out, first, x);
-    let end = printing::word(out, second, y);
-    printing::text(out, end, b"\n")
+    page.text(b" 0");
+    x.show(page);
+    y.show(page);
+    page.text(b"\n");
 }
 
-// On 0, with one number.
-fn with_number(out: &mut [u8], at: usize, n: u64) -> usize
-    ensures { ◌≡◌ {A = Bytes × ℕ} (out.new, result) (shown out.old at (spaced (decimal_of 0 ∷ decimal_of n ∷ []))) }
+// On 0, where there is nothing to tell.
+fn absent(page: &mut Page<'_>)
+    ensures { Shows page.old page.new (spaced (decimal_of 0 ∷ (45 ∷ []) ∷ [])) }
 {
-    let first = printing::text(out, at, b" 0");
-    let end = printing::number(out, first, n);
-    printing::text(out, end, b"\n")
-}
-
-// On 0, with two numbers.
-fn with_numbers(out: &mut [u8], at: usize, n: u64, m: u64) -> usize
-    ensures { ◌≡◌ {A = Bytes × ℕ} (out.new, result) (shown out.old at (spaced (decimal_of 0 ∷ decimal_of n ∷ decimal_of m ∷ []))) }
-{
-    let first = printing::text(out, at, b" 0");
-    let second = printing::number(out, first, n);
-    let end = printing::number(out, second, m);
-    printing::text(out, end, b"\n")
+    let nothing: &[u8] = b"-";
+    with_field(page, nothing);
 }
 
 // ---- the replies
 
-pub fn settled(out: &mut [u8], at: usize, reply: Settled) -> usize
-    ensures { ◌≡◌ {A = Bytes × ℕ} (out.new, result) (shown out.old at (behind_number (reply_read (told_settled reply) [] []))) }
+#[tactic(auto, unfolding(crate::specs::OnLines::behind_number, reply::specs::Read::reply_read, paper::specs::Calls::reply_number, paper::specs::Replay::fields_of))]
+pub fn settled(page: &mut Page<'_>, reply: Result<(), Refusal>)
+    ensures { Shows page.old page.new (behind_number (reply_read (told_settled reply) [] [])) }
 {
-    match reply {
-        Settled::Done => only(out, at, 0),
-        Settled::Refused { why } => only(out, at, reply::number(why)),
-    }
+    only(page, reply::number(reply));
 }
 
-pub fn begun(out: &mut [u8], at: usize, reply: Begun) -> usize
-    ensures { ◌≡◌ {A = Bytes × ℕ} (out.new, result) (shown out.old at (behind_number (reply_read (told_begun reply) [] []))) }
+#[tactic(auto, unfolding(crate::specs::OnLines::behind_number, reply::specs::Read::reply_read, paper::specs::Calls::reply_number, paper::specs::Replay::fields_of))]
+pub fn begun(page: &mut Page<'_>, reply: Result<Begun, Refusal>)
+    ensures { Shows page.old page.new (behind_number (reply_read (told_begun reply) [] [])) }
 {
     match reply {
-        Begun::Txn { handle, read } => with_numbers(out, at, handle, read),
-        Begun::Refused { why } => only(out, at, reply::number(why)),
+        Ok(begun) => with_fields(page, begun.handle, begun.read),
+        Err(why) => only(page, why.number()),
     }
 }
 
 // The value stands at the front of its buffer.
-pub fn got(out: &mut [u8], at: usize, reply: Got, value: &[u8]) -> usize
+#[tactic(auto, unfolding(crate::specs::OnLines::behind_number, reply::specs::Read::reply_read, paper::specs::Calls::reply_number, paper::specs::Replay::fields_of))]
+pub fn got(page: &mut Page<'_>, reply: Result<Option<usize>, Refusal>, value: &[u8])
     requires { Inside [] value.now (told_got reply) }
-    ensures { ◌≡◌ {A = Bytes × ℕ} (out.new, result) (shown out.old at (behind_number (reply_read (told_got reply) [] value.now))) }
+    ensures { Shows page.old page.new (behind_number (reply_read (told_got reply) [] value.now)) }
 {
     match reply {
-        Got::Value { length } => with_text(out, at, &value[..length]),
-        Got::Absent => with_text(out, at, b"-"),
-        Got::Refused { why } => only(out, at, reply::number(why)),
+        Ok(Some(length)) => with_field(page, &value[..length]),
+        Ok(None) => absent(page),
+        Err(why) => only(page, why.number()),
     }
 }
 
 // Key and value stand at the front of their buffers.
-pub fn scanned(out: &mut [u8], at: usize, reply: Scanned, key: &[u8], value: &[u8]) -> usize
+#[tactic(auto, unfolding(crate::specs::OnLines::behind_number, reply::specs::Read::reply_read, paper::specs::Calls::reply_number, paper::specs::Replay::fields_of))]
+pub fn scanned(
+    page: &mut Page<'_>,
+    reply: Result<Option<PairLengths>, Refusal>,
+    key: &[u8],
+    value: &[u8],
+)
     requires { Inside key.now value.now (told_scanned reply) }
-    ensures { ◌≡◌ {A = Bytes × ℕ} (out.new, result) (shown out.old at (behind_number (reply_read (told_scanned reply) key.now value.now))) }
+    ensures { Shows page.old page.new (behind_number (reply_read (told_scanned reply) key.now value.now)) }
 {
     match reply {
-        Scanned::Pair { key: k, value: v } => with_texts(out, at, &key[..k], &value[..v]),
-        Scanned::End => with_text(out, at, b"-"),
-        Scanned::Refused { why } => only(out, at, reply::number(why)),
+        Ok(Some(pair)) => with_fields(page, &key[..pair.key], &value[..pair.value]),
+        Ok(None) => absent(page),
+        Err(why) => only(page, why.number()),
     }
 }
 
-pub fn committed(out: &mut [u8], at: usize, reply: Committed) -> usize
-    ensures { ◌≡◌ {A = Bytes × ℕ} (out.new, result) (shown out.old at (behind_number (reply_read (told_committed reply) [] []))) }
+#[tactic(auto, unfolding(crate::specs::OnLines::behind_number, reply::specs::Read::reply_read, paper::specs::Calls::reply_number, paper::specs::Replay::fields_of))]
+pub fn committed(page: &mut Page<'_>, reply: Result<Option<u64>, Refusal>)
+    ensures { Shows page.old page.new (behind_number (reply_read (told_committed reply) [] [])) }
 {
     match reply {
-        Committed::Number { number } => with_number(out, at, number),
-        Committed::NoWrites => with_text(out, at, b"-"),
-        Committed::Refused { why } => only(out, at, reply::number(why)),
+        Ok(Some(number)) => with_field(page, number),
+        Ok(None) => absent(page),
+        Err(why) => only(page, why.number()),
     }
 }

@@ -1,11 +1,14 @@
 -- What a search among the places says of the store.
 -- Assumes nothing.
-use Prim.Native.Nat.{ℕ, ◌+◌, ◌*◌, ◌<◌, ◌≤◌}
+use Rattle.std.specs.Prelude.{Option as Found, None, Some, ◌==◌}
+use Prim.Native.Nat.{ℕ, ◌+◌, ◌*◌, ◌/◌, ◌<◌, ◌≤◌}
 use native.Mathlib.Omega.{arith}
-use mathlib.Core.Path.{◌≡◌, refl, sym, ap, ◌∙◌, subst}
+use mathlib.Core.Path.{◌≡◌, refl, sym, ap, ap₂, ◌∙◌}
 use mathlib.Core.Bool.{Bool, true, false}
 use mathlib.Core.Option.{some}
-use lib.ListN.{length}
+use lib.ListN.{length, get_or}
+use Rattle.std.proofs.Common.{Fits, w8}
+use Rattle.raw.proofs.Octets.{octets-of}
 use Rattle.paper.specs.Keys.{Bytes, octets}
 use Rattle.paper.specs.Image.{number_from}
 use Rattle.paper.specs.Lists.{is_some}
@@ -13,31 +16,28 @@ use Rattle.paper.specs.Settings.{Settings, in_ranges}
 use Rattle.paper.specs.Store.{Store, find_txn}
 use Rattle.raw.specs.Bytes.{part}
 use Rattle.layout.specs.Codec.{flag_number}
-use Rattle.layout.specs.Offsets.{start_places, stride, place_at}
+use Rattle.layout.specs.Offsets.{place_at, places_part}
 use Rattle.layout.specs.Layout.{settings_in, read_store, store_in, sound_state}
 use Rattle.paper.proofs.SoundLaws.{rules}
 use Rattle.layout.proofs.SoundState.{sound-read, sound-enough, sound-in}
 use Rattle.layout.proofs.Inside as inside
 use Rattle.layout.proofs.Changes.{place_end}
 use Rattle.table.specs.Places.{found_in}
-use Rattle.table.specs.declared.Found.{Found}
-use Rattle.table.specs.declared.Found.TheVariants.{At, Nothing}
 use Rattle.table.proofs.PlacesLie as lie
 use Rattle.settings.specs.declared.Shape.{Shape}
 use Rattle.settings.specs.Shapes.{shape_of}
 use Rattle.settings.proofs.Shapes.{Shaped, shaped}
 use Rattle.settings.proofs.Reading.{sound-ready, ready-some}
 use Rattle.seat.specs.Seats.{Seated, SeatTold}
-use Rattle.seat.specs.declared.Seat.TheVariants.{Open, Closed, Missing}
 
 -- the mark is 1 exactly where the transaction is open
-flag_one : (x : Bool) → flag_number x ≡ 1 → x ≡ true
-flag_one true e = refl
-flag_one false e = absurd (omega (arith, e))
+-- what is known of a slice of bytes
+pub bytes_known : (s : Bytes) → ((i : ℕ) → Fits w8 (get_or s i 0)) → octets s ≡ true
+bytes_known s h = octets-of s (λ i. omega (arith, h i))
 
-flag-other : (x : Bool) → (flag_number x ≡ 1 → ⊥) → x ≡ false
-flag-other true e = absurd (e refl)
-flag-other false e = refl
+flag_mark : (x : Bool) → (flag_number x == 1) ≡ x
+flag_mark true = refl
+flag_mark false = refl
 
 module _ (b : Bytes) (o : octets b ≡ true) (h : sound_state b ≡ true) where
   abbrev s : Store
@@ -53,21 +53,34 @@ module _ (b : Bytes) (o : octets b ≡ true) (h : sound_state b ≡ true) where
   pub shape-fits : (z : Shape) → z ≡ shape_of (store_in b).settings → Shaped (store_in b).settings z
   shape-fits z e = shaped st (rules s (sound-in b h)).ranges z e
 
-  module _ (z : Shape) (e : z ≡ shape_of (store_in b).settings) (handle : ℕ) (k : 0 < handle) (r : Found) (f : r ≡ found_in b z.places z.stride z.count handle) where
-    sought : lie.TxnFound st b s.places (inside.lies b s o here).places handle r
-    sought =
+  -- the slice of the places, as code lends it
+  pub places-lent : (z : Shape) → z ≡ shape_of (store_in b).settings → part b z.places (z.count * z.stride) ≡ places_part (store_in b).settings b
+  places-lent z e = let S = shape-fits z e in ap₂ (part b) S.places (ap₂ (λ (n w : ℕ). n * w) S.count S.stride)
+
+  module _ (z : Shape) (e : z ≡ shape_of (store_in b).settings) (q : Bytes) (lent : q ≡ part b z.places (z.count * z.stride)) (handle : ℕ) (k : handle ≡ 0 → ⊥) where
+    sought : (r : Found ℕ) → r ≡ found_in q 0 z.stride (length q / z.stride) handle → lie.TxnFound st b s.places (inside.lies b s o here).places handle r
+    sought r f =
         let S : Shaped st z = shape-fits z e in
-        let p : found_in b z.places z.stride z.count handle ≡ found_in b (start_places st) (stride st) st.transactions handle =
-        ap (λ (n : ℕ). found_in b n z.stride z.count handle) S.places ∙ ap (λ (n : ℕ). found_in b (start_places st) n z.count handle) S.stride ∙ ap (λ (n : ℕ). found_in b (start_places st) (stride st) n handle) S.count in
-        lie.txn-found st b s.places (inside.lies b s o here).places handle k r (f ∙ p)
+        let h : 0 < handle = omega arith in
+        lie.txn-found st b s.places (inside.lies b s o here).places handle h r (f ∙ ap₂ (λ (u : Bytes) (w : ℕ). found_in u 0 w (length u / w) handle) (lent ∙ places-lent z e) S.stride)
 
     -- no place has the handle
-    pub seat-missing : r ≡ Nothing → SeatTold (store_in b) handle Missing
-    seat-missing g = subst (lie.TxnFound st b s.places (inside.lies b s o here).places handle) g sought
+    pub seat-missing : None ≡ found_in q 0 z.stride (length q / z.stride) handle → SeatTold (store_in b) handle None
+    seat-missing f = sought None f
 
-    module _ (i at : ℕ) (g : r ≡ At i at) where
+    module _ (i : ℕ) (f : Some i ≡ found_in q 0 z.stride (length q / z.stride) handle) where
+      there : lie.TxnAt handle s.places i
+      there = sought (Some i) f
+
+      nearby : z.places + i * z.stride ≡ place_at st i
+      nearby = let S = shape-fits z e in ap₂ (λ (n w : ℕ). n + i * w) S.places S.stride
+
+      pub seat-small : z.places + i * z.stride < 134217728
+      seat-small = let S = shape-fits z e in omega (arith, nearby, place_end st i (omega (arith, there.inside, lie.count-is st b s.places (inside.lies b s o here).places)), S.small)
+
+    module _ (i : ℕ) (f : Some i ≡ found_in q 0 z.stride (length q / z.stride) handle) (at : ℕ) (a : at ≡ z.places + i * z.stride) where
       found : (at ≡ place_at st i) × lie.TxnAt handle s.places i
-      found = subst (lie.TxnFound st b s.places (inside.lies b s o here).places handle) g sought
+      found = (a ∙ nearby i f, there i f)
 
       among : i < st.transactions
       among = omega (arith, found.1.inside, lie.count-is st b s.places (inside.lies b s o here).places)
@@ -76,8 +89,12 @@ module _ (b : Bytes) (o : octets b ≡ true) (h : sound_state b ≡ true) where
       pub seat-inside : (at + 24 ≤ length b) × (at + 24 ≤ 134217728)
       seat-inside = let S = shape-fits z e in (omega (arith, found.0, place_end st i among, sound-enough b h), omega (arith, found.0, place_end st i among, S.small))
 
-      seat-marked : (read : ℕ) → read ≡ number_from 0 (part b (at + 8) 8) → (mark : Bool) → found.1.txn.open? ≡ mark → Seated (store_in b) handle at read mark
-      seat-marked read e₁ mark e₂ =
+      mark-is : (m : ℕ) → m ≡ number_from 0 (part b (at + 16) 8) → m ≡ flag_number found.1.txn.open?
+      mark-is m e₁ = e₁ ∙ ap (λ (n : ℕ). number_from 0 (part b (n + 16) 8)) found.0 ∙ inside.mark-at b s o here i among found.1.txn found.1.there
+
+      -- what stands behind the handle there
+      pub seat-there : (read m : ℕ) → read ≡ number_from 0 (part b (at + 8) 8) → m ≡ number_from 0 (part b (at + 16) 8) → Seated (store_in b) handle at read (m == 1)
+      seat-there read m e₁ e₂ =
           record {
             index = i;
             txn = found.1.txn;
@@ -88,21 +105,11 @@ module _ (b : Bytes) (o : octets b ≡ true) (h : sound_state b ≡ true) where
             found = found.1.found;
             put = found.1.put;
             reads = sym (e₁ ∙ ap (λ (n : ℕ). number_from 0 (part b (n + 8) 8)) found.0 ∙ inside.read_at b s o here i among found.1.txn found.1.there);
-            marked = e₂;
+            marked = sym (ap (λ (n : ℕ). n == 1) (mark-is m e₂) ∙ flag_mark found.1.txn.open?);
           }
 
-      mark-is : (m : ℕ) → m ≡ number_from 0 (part b (at + 16) 8) → m ≡ flag_number found.1.txn.open?
-      mark-is m e₁ = e₁ ∙ ap (λ (n : ℕ). number_from 0 (part b (n + 16) 8)) found.0 ∙ inside.mark-at b s o here i among found.1.txn found.1.there
-
-      -- 'open or closed'
-      pub seat-open : (read m : ℕ) → read ≡ number_from 0 (part b (at + 8) 8) → m ≡ number_from 0 (part b (at + 16) 8) → m ≡ 1 → SeatTold (store_in b) handle (Open at read)
-      seat-open read m e₁ e₂ e₃ = seat-marked read e₁ true (flag_one found.1.txn.open? (sym (mark-is m e₂) ∙ e₃))
-
-      pub seat-closed : (read m : ℕ) → read ≡ number_from 0 (part b (at + 8) 8) → m ≡ number_from 0 (part b (at + 16) 8) → (m ≡ 1 → ⊥) → SeatTold (store_in b) handle (Closed at read)
-      seat-closed read m e₁ e₂ e₃ = seat-marked read e₁ false (flag-other found.1.txn.open? (λ q. e₃ (mark-is m e₂ ∙ q)))
-
   -- 'handles are numbers from 1'
-  pub seat-zero : (handle : ℕ) → handle ≡ 0 → SeatTold (store_in b) handle Missing
+  pub seat-zero : (handle : ℕ) → handle ≡ 0 → SeatTold (store_in b) handle None
   seat-zero handle q = ap (λ (n : ℕ). find_txn n s.places) q ∙ lie.none-zero s.places (lie.ok-handles st b s.places (inside.lies b s o here).places)
 
   -- the places lie in the state

@@ -1,9 +1,10 @@
 -- How a begin ends, and the bytes that it writes.
 -- Assumes nothing.
-use Prim.Native.Nat.{ℕ, ◌+◌, ◌-◌, ◌<◌, ◌≤◌}
+use Rattle.std.specs.Prelude.{Option as Found, SomeIff, None, Some, Result, Ok, Err}
+use Prim.Native.Nat.{ℕ, ◌+◌, ◌-◌, ◌*◌, ◌/◌, ◌<◌, ◌≤◌}
 use native.Mathlib.Omega.{arith}
 use mathlib.Core.Path.{◌≡◌, refl, sym, ap, ap₂, ◌∙◌, subst}
-use mathlib.Core.Bool.{Bool, true, false, cond}
+use mathlib.Core.Bool.{Bool, true, false}
 use mathlib.Core.List.{List, [], ◌++◌}
 use mathlib.Core.Option.{Option, none, some}
 use lib.ListN.{length, set, length-set, take, drop}
@@ -24,7 +25,7 @@ use Rattle.raw.specs.Bytes.{part, over}
 use Rattle.raw.proofs.Parts.{length_part}
 use Rattle.raw.proofs.Over.{length_over, part-over-before, part-over-after, over-lent}
 use Rattle.layout.specs.Codec.{Slot}
-use Rattle.layout.specs.Offsets.{start_rows, width_rows, start_places, stride, place_at, place_part, rows_part}
+use Rattle.layout.specs.Offsets.{start_rows, width_rows, stride, place_at, place_part, rows_part}
 use Rattle.layout.specs.Layout.{read_store, store_in, sound_state, write_store, listed, row_stream, place_slot}
 use Rattle.layout.proofs.LayoutLaws.{OkPlace, Fits, place-laws, place-width}
 use Rattle.layout.proofs.SoundState.{sound-read, sound-enough, sound-in}
@@ -34,23 +35,21 @@ use Rattle.layout.proofs.Changes.{place_end, write-readers, write-place, fits-co
 use Rattle.settings.specs.declared.Shape.{Shape}
 use Rattle.settings.specs.Shapes.{shape_of}
 use Rattle.settings.proofs.Shapes.{Shaped}
-use Rattle.table.specs.Rows.{Rowed, checked, rows_in, lay_rows}
+use Rattle.table.specs.Rows.{Rowed, judged, checked, rows_in, lay_rows}
 use Rattle.table.specs.Places.{found_in}
-use Rattle.table.specs.declared.Found.{Found}
-use Rattle.table.specs.declared.Found.TheVariants.{At, Nothing}
-use Rattle.table.specs.declared.RowCheck.{RowCheck}
-use Rattle.table.specs.declared.RowCheck.TheVariants.{Fine, Full, Most}
+use Rattle.table.specs.declared.RowRefusal.{RowRefusal}
+use Rattle.table.specs.declared.RowRefusal.TheVariants.{Full, Most}
 use Rattle.table.proofs.RowsLie.{part-rows, part-checked, rows-laid, sound-rowed}
 use Rattle.table.proofs.RowsAnew.{lay-over}
 use Rattle.table.proofs.PlacesLie as lie
 use Rattle.txn.specs.declared.Rooms.{Rooms}
-use Rattle.txn.specs.Place.{rooms_of, place_of, stride_of}
+use Rattle.txn.specs.Place.{rooms_in, rooms_of, place_of, stride_of}
 use Rattle.txn.proofs.Callers.{slot_same}
 use Rattle.reply.specs.Told.{Told, told, why, handle}
 use Rattle.reply.specs.OnBytes.{told_on}
 use Rattle.reply.proofs.Ends.{refused-told, done-told, done-fits}
-use Rattle.seat.proofs.Finding.{shape-fits}
-use Rattle.sessions.specs.Sessions.{MayBegin}
+use Rattle.seat.proofs.Finding.{shape-fits, places-lent}
+use Rattle.sessions.specs.Sessions.{row_refusal, MayBegin}
 
 -- ---- the checks, in their order
 module _ (s : Store) (h : sound s ≡ true) where
@@ -68,9 +67,9 @@ module _ (s : Store) (h : sound s ≡ true) where
 
     module _ (t : table_fits s.settings.transactions s.readers s.clock ≡ true) where
       -- 'the handle counter there'
-      pub begin-counter : s.counter ≡ most_number → try_begin s ≡ stop counter_full
+      pub begin-counter : most_number ≤ s.counter → try_begin s ≡ stop counter_full
       unfolding try_begin must ◌>>◌
-      begin-counter e = let l : most_number ≤ s.counter = omega (arith, e) in let f : ltb s.counter most_number ≡ false = le-ltb _ _ l in rw h (rw free (rw t (rw f refl)))
+      begin-counter l = let f : ltb s.counter most_number ≡ false = le-ltb _ _ l in rw h (rw free (rw t (rw f refl)))
 
       -- 'a reader's count there'
       pub begin-most : ltb (readers_at s.clock s.readers) most_number ≡ false → try_begin s ≡ stop counter_full
@@ -119,8 +118,8 @@ module _ (b : Bytes) (o : octets b ≡ true) (h : sound_state b ≡ true) (z : S
   pub rowed : Rowed (part b start_rows (z.history - start_rows))
   rowed = subst Rowed (sym (rows-lent b)) (sound-rowed b s (inside.lies b s o here) (sound-in b h))
 
-  pub checks : (r : RowCheck) (clock : ℕ) → clock ≡ number_from 0 (part b 72 8) → r ≡ checked (part b start_rows (z.history - start_rows)) clock
-      → r ≡ cond (table_fits st.transactions s.readers s.clock) (cond (ltb (readers_at s.clock s.readers) most_number) Fine Most) Full
+  pub checks : (r : Result (Unit {0}) RowRefusal) (clock : ℕ) → clock ≡ number_from 0 (part b 72 8) → r ≡ checked (part b start_rows (z.history - start_rows)) clock
+      → r ≡ judged (table_fits st.transactions s.readers s.clock) (ltb (readers_at s.clock s.readers) most_number)
   checks r clock c k =
       k ∙ ap₂ (λ (q : Bytes) (n : ℕ). checked q n) (rows-lent b) (c ∙ clock-is) ∙ part-checked st (rows_part st b) s.readers (inside.lies b s o here).readers s.clock
 
@@ -238,7 +237,7 @@ module _ (b : Bytes) (o : octets b ≡ true) (z : Shape) (start handle clock : �
   pub rowed₂ : Rowed (part b₂ start_rows (z.history - start_rows))
   rowed₂ = subst Rowed (sym rows₂) (sound-rowed b s₀ (inside.lies b s₀ o (sound-read b h)) (sound-in b h))
 
-  pub fine₂ : checked (part b₂ start_rows (z.history - start_rows)) clock ≡ Fine
+  pub fine₂ : checked (part b₂ start_rows (z.history - start_rows)) clock ≡ Ok tt
   fine₂ = ap (λ (q : Bytes). checked q clock) rows₂ ∙ m.row
 
   long₂ : length b₂ ≡ length b
@@ -253,18 +252,18 @@ module _ (b : Bytes) (o : octets b ≡ true) (z : Shape) (start handle clock : �
       ∙ sym (write-readers s₂ b enough fits₂ (inside.lies b s₀ o (sound-read b h)).readers rs₀ fits₃.readers)
       ∙ ap (λ (x : Store). write_store x b) (sym begun-is)
 
-  rooms-are : (record { own = z.own; reads = z.reads; writes = z.writes }) ≡ rooms_of st₀
-  rooms-are = let e = S.own in let f = S.reads in let g = S.writes in cc
+  rooms-are : rooms_in z ≡ rooms_of st₀
+  rooms-are = let e = S.own in let f = S.reads in let g = S.writes in let h = S.serializable in cc
 
   -- ---- the same as code has it: each part lent, and what it came back as
   module _ (c₁ : Bytes) (e₁ : c₁ ≡ over b 80 (big_endian 8 handle)) where
-    pub lent-long : length (part c₁ start (start + z.stride - start)) ≡ stride_of (record { own = z.own; reads = z.reads; writes = z.writes })
+    pub lent-long : length (part c₁ start (start + z.stride - start)) ≡ stride_of (rooms_in z)
     lent-long = ap (λ (u : Bytes). length (part u start (start + z.stride - start))) e₁ ∙ place-long ∙ ap stride_of (sym rooms-are)
 
     pub lent-inside : length c₁ ≡ length b
     lent-inside = ap length e₁ ∙ long₁
 
-    module _ (y : Bytes) (e₂ : y ≡ (place_of (record { own = z.own; reads = z.reads; writes = z.writes })).write (some (make_txn handle clock true [] [] [])) (part c₁ start (start + z.stride - start))) where
+    module _ (y : Bytes) (e₂ : y ≡ (place_of (rooms_in z)).write (some (make_txn handle clock true [] [] [])) (part c₁ start (start + z.stride - start))) where
       abbrev c₂ : Bytes
       c₂ = take start c₁ ++ (y ++ drop (start + z.stride - start) (drop start c₁))
 
@@ -280,7 +279,7 @@ module _ (b : Bytes) (o : octets b ≡ true) (z : Shape) (start handle clock : �
       pub lent-inside₂ : length c₂ ≡ length b
       lent-inside₂ = ap length same₂ ∙ long₂
 
-      pub lent-rowed : Rowed (part c₂ start_rows (z.history - start_rows)) × (checked (part c₂ start_rows (z.history - start_rows)) clock ≡ Fine)
+      pub lent-rowed : Rowed (part c₂ start_rows (z.history - start_rows)) × (checked (part c₂ start_rows (z.history - start_rows)) clock ≡ Ok tt)
       lent-rowed = (subst (λ (u : Bytes). Rowed (part u start_rows (z.history - start_rows))) (sym same₂) rowed₂, ap (λ (u : Bytes). checked (part u start_rows (z.history - start_rows)) clock) same₂ ∙ fine₂)
 
       pub lent-entered : (x : Bytes) → x ≡ lay_rows (add_reader clock (rows_in (part c₂ start_rows (z.history - start_rows)))) (part c₂ start_rows (z.history - start_rows))
@@ -297,84 +296,101 @@ module _ (b : Bytes) (o : octets b ≡ true) (z : Shape) (start handle clock : �
 
 -- ---- what the answer of the rows' check means
 module _ (x y : Bool) where
-  of-full : Full ≡ cond x (cond y Fine Most) Full → x ≡ false
+  of-full : Err Full ≡ judged x y → x ≡ false
   of-full = go x y
     where
-      go : (x y : Bool) → Full ≡ cond x (cond y Fine Most) Full → x ≡ false
+      go : (x y : Bool) → Err Full ≡ judged x y → x ≡ false
       go true true e = absurd (let z : ◌≡◌ {A = ℕ} 0 1 = cc in omega arith)
       go true false e = absurd (let z : ◌≡◌ {A = ℕ} 0 1 = cc in omega arith)
       go false y e = refl
 
-  of-most : Most ≡ cond x (cond y Fine Most) Full → (x ≡ true) × (y ≡ false)
+  of-most : Err Most ≡ judged x y → (x ≡ true) × (y ≡ false)
   of-most = go x y
     where
-      go : (x y : Bool) → Most ≡ cond x (cond y Fine Most) Full → (x ≡ true) × (y ≡ false)
+      go : (x y : Bool) → Err Most ≡ judged x y → (x ≡ true) × (y ≡ false)
       go true true e = absurd (let z : ◌≡◌ {A = ℕ} 0 1 = cc in omega arith)
       go true false e = (refl, refl)
       go false y e = absurd (let z : ◌≡◌ {A = ℕ} 0 1 = cc in omega arith)
 
-  of-fine : Fine ≡ cond x (cond y Fine Most) Full → (x ≡ true) × (y ≡ true)
+  of-fine : Ok tt ≡ judged x y → (x ≡ true) × (y ≡ true)
   of-fine = go x y
     where
-      go : (x y : Bool) → Fine ≡ cond x (cond y Fine Most) Full → (x ≡ true) × (y ≡ true)
+      go : (x y : Bool) → Ok tt ≡ judged x y → (x ≡ true) × (y ≡ true)
       go true true e = (refl, refl)
       go true false e = absurd (let z : ◌≡◌ {A = ℕ} 0 1 = cc in omega arith)
       go false y e = absurd (let z : ◌≡◌ {A = ℕ} 0 1 = cc in omega arith)
 
 -- ---- each return of `begin`
 module _ (b : Bytes) (o : octets b ≡ true) (h : sound_state b ≡ true) (z : Shape) (e : z ≡ shape_of (store_in b).settings) where
-  sought : (r : Found) → r ≡ found_in b z.places z.stride z.count 0 → lie.FreeFound (store_in b).settings b (store_in b).places (inside.lies b (store_in b) o (sound-read b h)).places r
-  sought r f =
-      let st : Settings = (store_in b).settings in
-      let S : Shaped st z = shape-fits b o h z e in
-      let p : found_in b z.places z.stride z.count 0 ≡ found_in b (start_places st) (stride st) st.transactions 0 =
-      ap (λ (n : ℕ). found_in b n z.stride z.count 0) S.places ∙ ap (λ (n : ℕ). found_in b (start_places st) n z.count 0) S.stride ∙ ap (λ (n : ℕ). found_in b (start_places st) (stride st) n 0) S.count in
-      lie.free-found st b (store_in b).places (inside.lies b (store_in b) o (sound-read b h)).places r (f ∙ p)
+  module _ (q : Bytes) (lent : q ≡ part b z.places (z.count * z.stride)) where
+    sought : (r : Found ℕ) → r ≡ found_in q 0 z.stride (length q / z.stride) 0 → lie.FreeFound (store_in b).settings b (store_in b).places (inside.lies b (store_in b) o (sound-read b h)).places r
+    sought r f =
+        let S : Shaped (store_in b).settings z = shape-fits b o h z e in
+        lie.free-found (store_in b).settings b (store_in b).places (inside.lies b (store_in b) o (sound-read b h)).places r
+        (f ∙ ap₂ (λ (u : Bytes) (w : ℕ). found_in u 0 w (length u / w) 0) (lent ∙ places-lent b o h z e) S.stride)
+
+    pub no_place : None ≡ found_in q 0 z.stride (length q / z.stride) 0 → ◌≡◌ {A = Told × Bytes} (why (no_room places), b) (told_on Call.begin b)
+    unfolding tried
+    no_place f = sym (refused-told Call.begin b (no_room places) (begin-full (store_in b) (sound-in b h) (sought None f)))
+
+    module _ (i : ℕ) (f : Some i ≡ found_in q 0 z.stride (length q / z.stride) 0) where
+      free-there : lie.FreeAt (store_in b).places i
+      free-there = sought (Some i) f
+
+      nearby : z.places + i * z.stride ≡ place_at (store_in b).settings i
+      nearby = let S = shape-fits b o h z e in ap₂ (λ (n w : ℕ). n + i * w) S.places S.stride
+
+      pub begin-small : z.places + i * z.stride < 134217728
+      begin-small =
+          let S = shape-fits b o h z e in
+          omega (arith, nearby, place_end (store_in b).settings i (omega (arith, free-there.inside, lie.count-is (store_in b).settings b (store_in b).places (inside.lies b (store_in b) o (sound-read b h)).places)), S.small)
 
   tells : (r : Refusal) → try_begin (store_in b) ≡ stop r → (why r, b) ≡ told_on Call.begin b
   unfolding tried
   tells r f = sym (refused-told Call.begin b r f)
 
-  pub no_place : (r : Found) → r ≡ found_in b z.places z.stride z.count 0 → r ≡ Nothing → ◌≡◌ {A = Told × Bytes} (why (no_room places), b) (told_on Call.begin b)
-  no_place r f g = tells (no_room places) (begin-full (store_in b) (sound-in b h) (subst (lie.FreeFound (store_in b).settings b (store_in b).places (inside.lies b (store_in b) o (sound-read b h)).places) g (sought r f)))
-
-  module _ (r : Found) (f : r ≡ found_in b z.places z.stride z.count 0) (i start : ℕ) (g : r ≡ At i start) where
+  module _ (q : Bytes) (lent : q ≡ part b z.places (z.count * z.stride)) (i : ℕ) (f : Some i ≡ found_in q 0 z.stride (length q / z.stride) 0) (start : ℕ) (a : start ≡ z.places + i * z.stride) where
     here-free : (start ≡ place_at (store_in b).settings i) × lie.FreeAt (store_in b).places i
-    here-free = subst (lie.FreeFound (store_in b).settings b (store_in b).places (inside.lies b (store_in b) o (sound-read b h)).places) g (sought r f)
+    here-free = (a ∙ nearby q lent i f, free-there q lent i f)
 
     few : length (txns_of (store_in b).places) < (store_in b).settings.transactions
     few = omega (arith, here-free.1.few, lie.count-is (store_in b).settings b (store_in b).places (inside.lies b (store_in b) o (sound-read b h)).places)
 
-    module _ (clock : ℕ) (c : clock ≡ number_from 0 (part b 72 8)) (k : RowCheck) (q : k ≡ checked (part b start_rows (z.history - start_rows)) clock) where
+    module _ (clock : ℕ) (c : clock ≡ number_from 0 (part b 72 8)) where
       abbrev fits? : Bool
       fits? = table_fits (store_in b).settings.transactions (store_in b).readers (store_in b).clock
 
       abbrev below? : Bool
       below? = ltb (readers_at (store_in b).clock (store_in b).readers) most_number
 
-      pub no_row : k ≡ Full → ◌≡◌ {A = Told × Bytes} (why (no_room reader_table), b) (told_on Call.begin b)
-      no_row a = tells (no_room reader_table) (begin-table (store_in b) (sound-in b h) few (of-full fits? below? (sym a ∙ checks b o h z e k clock c q)))
+      no_row : Err Full ≡ checked (part b start_rows (z.history - start_rows)) clock → ◌≡◌ {A = Told × Bytes} (why (no_room reader_table), b) (told_on Call.begin b)
+      no_row q = tells (no_room reader_table) (begin-table (store_in b) (sound-in b h) few (of-full fits? below? (checks b o h z e (Err Full) clock c q)))
 
-      pub most-readers : k ≡ Most → ◌≡◌ {A = Told × Bytes} (why counter_full, b) (told_on Call.begin b)
-      most-readers a = let w = of-most fits? below? (sym a ∙ checks b o h z e k clock c q) in tells counter_full (begin-most (store_in b) (sound-in b h) few w.0 w.1)
+      most-readers : Err Most ≡ checked (part b start_rows (z.history - start_rows)) clock → ◌≡◌ {A = Told × Bytes} (why counter_full, b) (told_on Call.begin b)
+      most-readers q = let w = of-most fits? below? (checks b o h z e (Err Most) clock c q) in tells counter_full (begin-most (store_in b) (sound-in b h) few w.0 w.1)
 
-      module _ (a : k ≡ Fine) (counter : ℕ) (n : counter ≡ number_from 0 (part b 80 8)) where
+      pub row-refused : (w : RowRefusal) → Err w ≡ checked (part b start_rows (z.history - start_rows)) clock → ◌≡◌ {A = Told × Bytes} (why (row_refusal w), b) (told_on Call.begin b)
+      row-refused Full q = no_row q
+      row-refused Most q = most-readers q
+
+      module _ (kept : Ok tt ≡ checked (part b start_rows (z.history - start_rows)) clock) (counter : ℕ) (n : counter ≡ number_from 0 (part b 80 8)) where
         fine : (fits? ≡ true) × (below? ≡ true)
-        fine = of-fine fits? below? (sym a ∙ checks b o h z e k clock c q)
+        fine = of-fine fits? below? (checks b o h z e (Ok tt) clock c kept)
 
         count-is : counter ≡ (store_in b).counter
         count-is = n ∙ counter-is b o h z e
 
-        pub most-handles : counter ≡ 18446744073709551615 → ◌≡◌ {A = Told × Bytes} (why counter_full, b) (told_on Call.begin b)
-        most-handles l = tells counter_full (begin-counter (store_in b) (sound-in b h) few fine.0 (sym count-is ∙ l))
+        pub most-handles : ¬ (counter + 1 < 18446744073709551616) → ◌≡◌ {A = Told × Bytes} (why counter_full, b) (told_on Call.begin b)
+        most-handles l = let m : 18446744073709551615 ≤ (store_in b).counter = omega (arith, l, count-is) in tells counter_full (begin-counter (store_in b) (sound-in b h) few fine.0 m)
 
-        module _ (l : counter < 18446744073709551615) where
-          begins : try_begin (store_in b) ≡ go (record { reply = began (counter + 1) clock; store = begun (store_in b) })
+        -- the next handle is the counter and one
+        module _ (new : ℕ) (k : SomeIff (Some new) (counter + 1 < 18446744073709551616) (counter + 1)) where
+          begins : try_begin (store_in b) ≡ go (record { reply = began new clock; store = begun (store_in b) })
           begins =
-              begin-done (store_in b) (sound-in b h) few fine.0 fine.1 (omega (arith, l, count-is))
-              ∙ ap₂ (λ (x y : ℕ). go (record { reply = began (x + 1) y; store = begun (store_in b) })) (sym count-is) (sym (c ∙ clock-is b o h z e))
+              begin-done (store_in b) (sound-in b h) few fine.0 fine.1 (omega (arith, k.0, count-is))
+              ∙ ap₂ (λ (x y : ℕ). go (record { reply = began x y; store = begun (store_in b) })) (ap (λ (x : ℕ). x + 1) (sym count-is) ∙ sym k.1) (sym (c ∙ clock-is b o h z e))
 
-          pub may-begin : MayBegin b z start (counter + 1) clock
+          pub may-begin : MayBegin b z start new clock
           may-begin =
               record {
                 sound = h;
@@ -382,12 +398,12 @@ module _ (b : Bytes) (o : octets b ≡ true) (h : sound_state b ≡ true) (z : S
                 index = i;
                 free = here-free.1;
                 place = here-free.0;
-                row = ap (λ (u : Bytes). checked u clock) (sym (rows-lent b o h z e b)) ∙ sym q ∙ a;
-                next = ap (λ (x : ℕ). x + 1) count-is;
+                row = ap (λ (u : Bytes). checked u clock) (sym (rows-lent b o h z e b)) ∙ sym kept;
+                next = k.1 ∙ ap (λ (x : ℕ). x + 1) count-is;
                 reads = c ∙ clock-is b o h z e;
                 begins = begins;
               }
 
-          pub begins-told : (a : Bytes) → a ≡ write_store (begun (store_in b)) b → ◌≡◌ {A = Told × Bytes} (handle (counter + 1) clock, a) (told_on Call.begin b)
+          pub begins-told : (a : Bytes) → a ≡ write_store (begun (store_in b)) b → ◌≡◌ {A = Told × Bytes} (handle new clock, a) (told_on Call.begin b)
           unfolding tried told
-          begins-told a w = ap (λ (u : Bytes). (handle (counter + 1) clock, u)) w ∙ sym (done-told Call.begin b (record { reply = began (counter + 1) clock; store = begun (store_in b) }) begins)
+          begins-told a w = ap (λ (u : Bytes). (handle new clock, u)) w ∙ sym (done-told Call.begin b (record { reply = began new clock; store = begun (store_in b) }) begins)

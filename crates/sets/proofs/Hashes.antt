@@ -1,15 +1,14 @@
--- The hashes that lie in some bytes: how many there are, each of them, parts of them, the bytes that they are, and what layout reads.
+-- The hashes that lie in some bytes: each in its four bytes, how many there are, parts of them, the bytes that they are, and what layout reads.
 -- Assumes nothing.
-use Prim.Native.Nat.{ℕ, zero, suc, ◌+◌, ◌*◌, ◌-◌, ◌%◌, ◌^◌, ◌≤◌, ◌<◌, compare}
+use Prim.Native.Nat.{ℕ, zero, suc, ◌+◌, ◌*◌, ◌-◌, ◌/◌, ◌%◌, ◌^◌, ◌≤◌, ◌<◌, compare}
 use native.Mathlib.Omega.{arith}
 use native.Mathlib.Nat.{not-suc-le-zero, sub-zero, mod-eq_of_lt}
-use native.Mathlib.Numerals.{add-one}
 use mathlib.Core.Path.{◌≡◌, refl, sym, ap, ap₂, ◌∙◌}
 use mathlib.Core.Bool.{Bool, true, false, ◌&&◌}
-use mathlib.Core.List.{List, [], ◌∷◌, ◌++◌, append_assoc}
+use mathlib.Core.List.{List, [], ◌∷◌, ◌++◌, map, append_assoc}
 use mathlib.Core.Option.{none, some}
 use lib.ListN.{length, take, drop, get_or, length-append, length-drop}
-use lib.Seq.{drop-cons, drop-drop, take-add, take_at, drop_at, take-take}
+use lib.Seq.{drop-drop, take-add, take_at, drop_at, take-take}
 use lib.Dec.{leb}
 use borrow.Author.Tests.{le-leb, lt-leb, leb-true, leb-false, lt-ltb, ltb-true}
 use Rattle.paper.specs.Lists.{all, rises}
@@ -25,9 +24,26 @@ use Rattle.raw.proofs.Octets.{octets-drop}
 use Rattle.raw.proofs.Numbers.{number_fits, big_endian-again}
 use Rattle.layout.specs.Codec.{num, many, put_all, get_all, further, cons_of}
 use Rattle.layout.specs.Layout.{hashes}
-use Rattle.sets.specs.Sets.{hashes_of, hashes_in, hash_at}
+use Rattle.std.specs.Simd.{first_chunks}
+use Rattle.sets.specs.Sets.{hashes_of, set_hashes, hashes_in}
 
--- ---- how many, each, and parts of them
+-- ---- each in its four bytes
+
+pub four_bytes : (b : Bytes) → length b ≡ 4 → get_or b 0 0 * 16777216 + get_or b 1 0 * 65536 + get_or b 2 0 * 256 + get_or b 3 0 ≡ number_from 0 b
+unfolding number_from
+four_bytes [] e = absurd (omega arith)
+four_bytes (x ∷ []) e = absurd (omega arith)
+four_bytes (x ∷ y ∷ []) e = absurd (omega arith)
+four_bytes (x ∷ y ∷ z ∷ []) e = absurd (omega arith)
+four_bytes (x ∷ y ∷ z ∷ w ∷ []) e = omega arith
+four_bytes (x ∷ y ∷ z ∷ w ∷ v ∷ b) e = absurd (omega arith)
+
+pub chunks-hashes : (n : ℕ) (b : Bytes) → map (λ x. number_from 0 x) (first_chunks 4 n b) ≡ hashes_of n b
+unfolding hashes_of
+chunks-hashes zero b = refl
+chunks-hashes (suc n) b = ap (λ (t : List ℕ). number_from 0 (take 4 b) ∷ t) (chunks-hashes n (drop 4 b))
+
+-- ---- how many, and parts of them
 
 pub length-hashes : (n : ℕ) (b : Bytes) → length (hashes_of n b) ≡ n
 unfolding hashes_of
@@ -39,15 +55,6 @@ further-on : (i : ℕ) (b : Bytes) → drop (4 * i) (drop 4 b) ≡ drop (4 * suc
 further-on i b =
     let e : 4 + 4 * i ≡ 4 * suc i = omega arith in
     drop-drop (4 * i) 4 b ∙ ap (λ (k : ℕ). drop k b) e
-
-hash-of : (n i : ℕ) (b : Bytes) → i < n → get_or (hashes_of n b) i 0 ≡ number_from 0 (part b (4 * i) 4)
-unfolding hashes_of
-hash-of zero i b h = absurd (not-suc-le-zero h)
-hash-of (suc n) zero b h = refl
-hash-of (suc n) (suc i) b h = hash-of n i (drop 4 b) (omega arith) ∙ ap (λ (t : Bytes). number_from 0 (take 4 t)) (further-on i b)
-
-pub hash-in : (s : Bytes) (at n i : ℕ) → i < n → get_or (hashes_in s at n) i 0 ≡ hash_at s at i
-hash-in s at n i h = hash-of n i (drop at s) h ∙ ap (λ (t : Bytes). number_from 0 (take 4 t)) (drop-drop (4 * i) at s)
 
 pub drop-hashes : (n i : ℕ) (b : Bytes) → i ≤ n → drop i (hashes_of n b) ≡ hashes_of (n - i) (drop (4 * i) b)
 unfolding hashes_of
@@ -63,12 +70,6 @@ take-hashes n zero b h = refl
 take-hashes zero (suc i) b h = absurd (not-suc-le-zero h)
 take-hashes (suc n) (suc i) b h = ap (λ (t : List ℕ). number_from 0 (take 4 b) ∷ t) (take-hashes n i (drop 4 b) (omega arith))
 
--- from place i on: the hash there, and those from the next on
-pub from_place : (s : Bytes) (at n i : ℕ) → i < n → drop i (hashes_in s at n) ≡ hash_at s at i ∷ drop (i + 1) (hashes_in s at n)
-from_place s at n i h =
-    drop-cons (hashes_in s at n) i 0 (rw length-hashes h)
-    ∙ ap₂ {C = List ℕ} (λ x k. x ∷ drop k (hashes_in s at n)) (hash-in s at n i h) (sym (add-one i))
-
 -- the hashes of the front alone
 pub front-hashes : (n : ℕ) (b : Bytes) (m : ℕ) → 4 * n ≤ m → hashes_of n (take m b) ≡ hashes_of n b
 unfolding hashes_of
@@ -76,6 +77,17 @@ front-hashes zero b m h = refl
 front-hashes (suc n) b m h =
     ap₂ {C = List ℕ} (λ x t. number_from 0 x ∷ t) (take-take 4 m b (omega arith))
     (ap (hashes_of n) (drop-take 4 m b) ∙ front-hashes n (drop 4 b) (m - 4) (omega arith))
+
+-- a part of some bytes that is n hashes
+pub set-part : (s : Bytes) (at m n : ℕ) → m ≡ 4 * n → at + m ≤ length s → set_hashes (part s at m) ≡ hashes_in s at n
+set-part s at m n e l =
+    let k : length (part s at m) ≡ m = length_part s at m l in
+    let i : length (part s at m) / 4 ≡ n = omega arith in
+    ap (λ (j : ℕ). hashes_of j (part s at m)) i ∙ front-hashes n (drop at s) m (omega arith)
+
+-- and the front of some bytes
+pub set-front : (b : Bytes) (n : ℕ) → 4 * n ≤ length b → set_hashes (take (4 * n) b) ≡ hashes_of n b
+set-front b n l = set-part b 0 (4 * n) n refl (omega arith)
 
 -- ---- hashes have 32 bits
 
@@ -87,15 +99,18 @@ all-hashes (suc n) b o h =
     (all-hashes n (drop 4 b) (octets-drop 4 b o) (rw length-drop (omega arith)))
 
 -- so a set in bytes is what rises
-pub set-in : (s : Bytes) (at n : ℕ) → octets s ≡ true → at + 4 * n ≤ length s → is_set (hashes_in s at n) ≡ rises compare (hashes_in s at n)
+pub set-of : (n : ℕ) (b : Bytes) → octets b ≡ true → 4 * n ≤ length b → is_set (hashes_of n b) ≡ rises compare (hashes_of n b)
 unfolding is_set
-set-in s at n o h =
-    let d : length (drop at s) ≡ length s - at = length-drop at s in
-    ap (λ (b : Bool). rises compare (hashes_in s at n) && b) (all-hashes n (drop at s) (octets-drop at s o) (omega arith)) ∙ and-true (rises compare (hashes_in s at n))
+set-of n b o h =
+    ap (λ (t : Bool). rises compare (hashes_of n b) && t) (all-hashes n b o h) ∙ and-true (rises compare (hashes_of n b))
   where
     and-true : (b : Bool) → b && true ≡ b
     and-true true = refl
     and-true false = refl
+
+pub set-in : (s : Bytes) (at n : ℕ) → octets s ≡ true → at + 4 * n ≤ length s → is_set (hashes_in s at n) ≡ rises compare (hashes_in s at n)
+set-in s at n o h =
+    let d : length (drop at s) ≡ length s - at = length-drop at s in set-of n (drop at s) (octets-drop at s o) (omega arith)
 
 -- ---- the bytes of hashes
 

@@ -6,7 +6,6 @@ use mathlib.Core.Path.{◌≡◌, refl, sym, ap, ap₂, ◌∙◌}
 use mathlib.Core.Bool.{Bool, true, false, cond}
 use mathlib.Core.List.{List, [], ◌∷◌, ◌++◌}
 use lib.ListN.{length, take, drop, length-append, length-drop, take-append-drop}
-use lib.Seq.{drop-drop}
 use lib.Dec.{ltb, eqb}
 use borrow.Author.Tests.{lt-ltb, le-ltb, eq-eqb, ne_eqb}
 use Rattle.paper.specs.Lists.{keep, rises_from, rises, insert, place, among}
@@ -20,28 +19,36 @@ use Rattle.raw.proofs.Parts.{length_part}
 use Rattle.raw.proofs.Over.{over-after, over-before, over-part}
 use Rattle.raw.proofs.Octets.{octets-drop}
 use Rattle.layout.specs.Layout.{hashes}
-use Rattle.sets.specs.Sets.{hashes_in, rank, found, found_in}
-use Rattle.sets.specs.declared.Found.TheVariants.{At, Gap}
+use Rattle.sets.specs.Sets.{hashes_of, rank, found, found_in}
+use Rattle.std.specs.Prelude.{Ok, Err, is_ok}
 use Rattle.sets.proofs.Hashes.{length-hashes, take-hashes, drop-hashes, form-append, form-cons, form-hashes}
 use Rattle.sets.proofs.Risings.{rises-head, rises-tail, none_below}
 
 -- ---- what a search has found
 
-pub found-gap : (h i : ℕ) (hs : List ℕ) → Gap i ≡ found_in h hs → (among h hs ≡ false) × (i ≡ rank h hs)
+pub found_gap : (h i : ℕ) (hs : List ℕ) → Err i ≡ found_in h hs → (among h hs ≡ false) × (i ≡ rank h hs)
 unfolding found_in
-found-gap h i hs = go (among h hs) refl
+found_gap h i hs = go (among h hs) refl
   where
-    go : (b : Bool) → among h hs ≡ b → Gap i ≡ found b (rank h hs) → (among h hs ≡ false) × (i ≡ rank h hs)
-    go true e f = absurd (let z : ◌≡◌ {A = ℕ} 0 1 = cc in omega arith)
+    go : (b : Bool) → among h hs ≡ b → Err i ≡ found b (rank h hs) → (among h hs ≡ false) × (i ≡ rank h hs)
+    go true e f = cc
     go false e f = (e, cc)
 
-pub found_at : (h i : ℕ) (hs : List ℕ) → At i ≡ found_in h hs → among h hs ≡ true
+pub found-at : (h i : ℕ) (hs : List ℕ) → Ok i ≡ found_in h hs → among h hs ≡ true
 unfolding found_in
-found_at h i hs = go (among h hs) refl
+found-at h i hs = go (among h hs) refl
   where
-    go : (b : Bool) → among h hs ≡ b → At i ≡ found b (rank h hs) → among h hs ≡ true
+    go : (b : Bool) → among h hs ≡ b → Ok i ≡ found b (rank h hs) → among h hs ≡ true
     go true e f = e
-    go false e f = absurd (let z : ◌≡◌ {A = ℕ} 0 1 = cc in omega arith)
+    go false e f = cc
+
+pub found-among : (h : ℕ) (hs : List ℕ) → is_ok (found_in h hs) ≡ among h hs
+unfolding found_in
+found-among h hs = go (among h hs)
+  where
+    go : (b : Bool) → is_ok (found b (rank h hs)) ≡ b
+    go true = refl
+    go false = refl
 
 -- ---- where h goes
 
@@ -99,8 +106,8 @@ rank-inside h (x ∷ xs) = go (rank-inside h xs) (ltb x h)
     go l true = omega arith
     go l false = omega arith
 
-pub gap-inside : (s : Bytes) (at n i h : ℕ) → Gap i ≡ found_in h (hashes_in s at n) → i ≤ n
-gap-inside s at n i h g = omega (arith, (found-gap h i (hashes_in s at n) g).1, rank-inside h (hashes_in s at n), length-hashes n (drop at s))
+pub gap-inside : (b : Bytes) (n i h : ℕ) → Err i ≡ found_in h (hashes_of n b) → i ≤ n
+gap-inside b n i h g = omega (arith, (found_gap h i (hashes_of n b) g).1, rank-inside h (hashes_of n b), length-hashes n b)
 
 pub length-new : (h : ℕ) (hs : List ℕ) → rises compare hs ≡ true → among h hs ≡ false → length (insert compare h hs) ≡ length hs + 1
 length-new h hs r a =
@@ -108,50 +115,50 @@ length-new h hs r a =
     let e : length (take i hs) + length (drop i hs) ≡ length hs = sym (length-append (take i hs) (drop i hs)) ∙ ap length (take-append-drop i hs) in
     ap length (insert-new h hs r a) ∙ length-append (take i hs) (h ∷ drop i hs) ∙ omega arith
 
+-- a hash that has come into a gap among n
+pub added : (b : Bytes) (n i h : ℕ) → rises compare (hashes_of n b) ≡ true → Err i ≡ found_in h (hashes_of n b) → length (insert compare h (hashes_of n b)) ≡ n + 1
+added b n i h r g =
+    length-new h (hashes_of n b) r (found_gap h i (hashes_of n b) g).0 ∙ ap (λ (m : ℕ). m + 1) (length-hashes n b)
+
 -- ---- the bytes of the set after it
 
 -- those before place i, the hash, and those from place i on, in n hashes
-pub form-new : (s : Bytes) (at n i h : ℕ) → octets s ≡ true → at + 4 * n ≤ length s → i ≤ n
-    → hashes.form (take i (hashes_in s at n) ++ (h ∷ drop i (hashes_in s at n))) ≡ part s at (4 * i) ++ (big_endian 4 h ++ part s (at + 4 * i) (4 * (n - i)))
-form-new s at n i h o l k =
-    let b : Bytes = drop at s in
-    let u : octets b ≡ true = octets-drop at s o in
-    let m : length b ≡ length s - at = length-drop at s in
-    let p : hashes.form (take i (hashes_in s at n)) ≡ part s at (4 * i) = ap (λ (t : List ℕ). hashes.form t) (take-hashes n i b k) ∙ form-hashes i b u (omega arith) in
-    let q : hashes.form (drop i (hashes_in s at n)) ≡ part s (at + 4 * i) (4 * (n - i)) =
+pub form-new : (b : Bytes) (n i h : ℕ) → octets b ≡ true → 4 * n ≤ length b → i ≤ n
+    → hashes.form (take i (hashes_of n b) ++ (h ∷ drop i (hashes_of n b))) ≡ take (4 * i) b ++ (big_endian 4 h ++ part b (4 * i) (4 * (n - i)))
+form-new b n i h o l k =
+    let p : hashes.form (take i (hashes_of n b)) ≡ take (4 * i) b = ap (λ (t : List ℕ). hashes.form t) (take-hashes n i b k) ∙ form-hashes i b o (omega arith) in
+    let q : hashes.form (drop i (hashes_of n b)) ≡ part b (4 * i) (4 * (n - i)) =
     ap (λ (t : List ℕ). hashes.form t) (drop-hashes n i b k)
-    ∙ form-hashes (n - i) (drop (4 * i) b) (octets-drop (4 * i) b u) (rw length-drop (omega arith))
-    ∙ ap (take (4 * (n - i))) (drop-drop (4 * i) at s) in
-    form-append (take i (hashes_in s at n)) (h ∷ drop i (hashes_in s at n))
-    ∙ ap₂ (λ (x y : Bytes). x ++ y) p (form-cons h (drop i (hashes_in s at n)) ∙ ap (λ (y : Bytes). big_endian 4 h ++ y) q)
+    ∙ form-hashes (n - i) (drop (4 * i) b) (octets-drop (4 * i) b o) (rw length-drop (omega arith)) in
+    form-append (take i (hashes_of n b)) (h ∷ drop i (hashes_of n b))
+    ∙ ap₂ (λ (x y : Bytes). x ++ y) p (form-cons h (drop i (hashes_of n b)) ∙ ap (λ (y : Bytes). big_endian 4 h ++ y) q)
 
 -- what is behind moved up, and the hash written in the gap
-pub written_new : (s : Bytes) (at n i h : ℕ) → octets s ≡ true → at + 4 * n + 4 ≤ length s → rises compare (hashes_in s at n) ≡ true → Gap i ≡ found_in h (hashes_in s at n)
-    → over (over s (at + 4 * i + 4) (part s (at + 4 * i) (4 * (n - i)))) (at + 4 * i) (big_endian 4 h) ≡ over s at (hashes.form (insert compare h (hashes_in s at n)))
-written_new s at n i h o l r g =
-    let hs : List ℕ = hashes_in s at n in
-    let f = found-gap h i hs g in
-    let k : i ≤ n = gap-inside s at n i h g in
-    let p : Bytes = part s at (4 * i) in
-    let q : Bytes = part s (at + 4 * i) (4 * (n - i)) in
-    let pl : length p ≡ 4 * i = length_part s at (4 * i) (omega arith) in
+pub written_new : (b : Bytes) (n i h : ℕ) → octets b ≡ true → 4 * n + 4 ≤ length b → rises compare (hashes_of n b) ≡ true → Err i ≡ found_in h (hashes_of n b)
+    → over (over b (4 * i + 4) (part b (4 * i) (4 * (n - i)))) (4 * i) (big_endian 4 h) ≡ over b 0 (hashes.form (insert compare h (hashes_of n b)))
+written_new b n i h o l r g =
+    let hs : List ℕ = hashes_of n b in
+    let f = found_gap h i hs g in
+    let k : i ≤ n = gap-inside b n i h g in
+    let p : Bytes = take (4 * i) b in
+    let q : Bytes = part b (4 * i) (4 * (n - i)) in
+    let pl : length p ≡ 4 * i = length_part b 0 (4 * i) (omega arith) in
     let bl : length (big_endian 4 h) ≡ 4 = length-big_endian 4 h in
-    let c : at + 4 * i + length (big_endian 4 h) ≡ at + 4 * i + 4 = ap (λ (j : ℕ). at + 4 * i + j) bl in
-    let d : at + 4 * i ≡ at + length p = ap (λ (j : ℕ). at + j) (sym pl) in
+    let c : 4 * i + length (big_endian 4 h) ≡ 4 * i + 4 = ap (λ (j : ℕ). 4 * i + j) bl in
+    let d : 4 * i ≡ 0 + length p = omega arith in
     let e : insert compare h hs ≡ take i hs ++ (h ∷ drop i hs) =
     insert-new h hs r f.0 ∙ ap (λ (j : ℕ). take j hs ++ (h ∷ drop j hs)) (sym f.1) in
-    over-before s (at + 4 * i + 4) q (omega arith) (at + 4 * i) (big_endian 4 h) c
-    ∙ ap (λ (t : Bytes). over t (at + 4 * i) (big_endian 4 h ++ q)) (sym (over-part s at (4 * i) (omega arith)))
-    ∙ over-after s at p (omega arith) (at + 4 * i) (big_endian 4 h ++ q) d
-    ∙ ap (over s at) (sym (ap (λ (t : List ℕ). hashes.form t) e ∙ form-new s at n i h o (omega arith) k))
+    over-before b (4 * i + 4) q (omega arith) (4 * i) (big_endian 4 h) c
+    ∙ ap (λ (t : Bytes). over t (4 * i) (big_endian 4 h ++ q)) (sym (over-part b 0 (4 * i) (omega arith)))
+    ∙ over-after b 0 p (omega arith) (4 * i) (big_endian 4 h ++ q) d
+    ∙ ap (over b 0) (sym (ap (λ (t : List ℕ). hashes.form t) e ∙ form-new b n i h o (omega arith) k))
 
 -- nothing is written where it stands already
-pub written-there : (s : Bytes) (at n i h : ℕ) → octets s ≡ true → at + 4 * n ≤ length s → rises compare (hashes_in s at n) ≡ true → At i ≡ found_in h (hashes_in s at n)
-    → (n ≡ length (insert compare h (hashes_in s at n))) × (s ≡ over s at (hashes.form (insert compare h (hashes_in s at n))))
-written-there s at n i h o l r g =
-    let hs : List ℕ = hashes_in s at n in
-    let e : insert compare h hs ≡ hs = insert-there h hs r (found_at h i hs g) in
-    let m : length (drop at s) ≡ length s - at = length-drop at s in (
-      sym (ap length e ∙ length-hashes n (drop at s)),
-      sym (ap (λ (t : List ℕ). over s at (hashes.form t)) e ∙ ap (over s at) (form-hashes n (drop at s) (octets-drop at s o) (omega arith)) ∙ over-part s at (4 * n) l),
+pub written-there : (b : Bytes) (n i h : ℕ) → octets b ≡ true → 4 * n ≤ length b → rises compare (hashes_of n b) ≡ true → Ok i ≡ found_in h (hashes_of n b)
+    → (n ≡ length (insert compare h (hashes_of n b))) × (b ≡ over b 0 (hashes.form (insert compare h (hashes_of n b))))
+written-there b n i h o l r g =
+    let hs : List ℕ = hashes_of n b in
+    let e : insert compare h hs ≡ hs = insert-there h hs r (found-at h i hs g) in (
+      sym (ap length e ∙ length-hashes n b),
+      sym (ap (λ (t : List ℕ). over b 0 (hashes.form t)) e ∙ ap (over b 0) (form-hashes n b o l) ∙ over-part b 0 (4 * n) (omega arith)),
     )

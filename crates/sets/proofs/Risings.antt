@@ -1,22 +1,22 @@
--- Rising sets of numbers by place, and the pass that tells whether hashes rise.
+-- Rising sets of numbers by place, and what tells whether numbers rise.
 -- Assumes nothing.
-use Prim.Native.Nat.{ℕ, zero, suc, ◌+◌, ◌≤◌, ◌<◌, compare}
+use Prim.Native.Nat.{ℕ, zero, suc, ◌+◌, ◌<◌, compare}
 use native.Mathlib.Omega.{arith}
-use native.Mathlib.Nat.{not-suc-le-zero, le_antisymm}
+use native.Mathlib.Nat.{not-suc-le-zero}
 use mathlib.Core.Path.{◌≡◌, refl, sym, ap, ◌∙◌}
 use mathlib.Core.Bool.{Bool, true, false, ◌&&◌}
-use mathlib.Core.List.{List, [], ◌∷◌}
-use lib.ListN.{length, drop, get_or, drop_of_length-le}
+use mathlib.Core.List.{List, [], ◌∷◌, map}
+use lib.ListN.{length, drop, get_or}
 use lib.Dec.{ltb}
-use borrow.Author.Tests.{lt-ltb, le-ltb, ltb-true, ltb-false, ne_eqb}
+use borrow.Author.Tests.{ne_eqb}
 use Rattle.paper.specs.Lists.{is_lt, rises_from, rises, among}
 use Rattle.paper.specs.Keys.{Bytes}
-use Rattle.paper.proofs.Bools.{and_left, and_right, is_lt-lt}
+use Rattle.paper.proofs.Bools.{and_left, and_right, and_intro, is_lt-lt}
 use Rattle.paper.proofs.Order.{compare-lt, compare-order}
 use Rattle.paper.proofs.Rising.{rises-of}
 use Rattle.raw.proofs.Comparing.{less-than}
-use Rattle.sets.specs.Sets.{hashes_of, hashes_in, hash_at}
-use Rattle.sets.proofs.Hashes.{length-hashes, from_place}
+use Rattle.std.specs.List.{AllAdjacentBelow, IsAllAdjacentAnswer}
+use Rattle.sets.specs.Sets.{hashes_of, hashes_in}
 
 -- ---- what a rising list says
 
@@ -56,52 +56,44 @@ none_below h y (z ∷ zs) l r =
     let k = rises-head y z zs r in
     simp (ne_eqb h y (λ e. omega arith)) (none_below h z zs (omega arith) (rises-tail y z zs r))
 
--- ---- the pass
+-- ---- whether numbers rise
 
 pub pos : (n : ℕ) → (n ≡ 0 → ⊥) → 0 < n
 pos zero h = absurd (h refl)
 pos (suc n) h = omega arith
-
--- at least h, and another number
-pub apart : (x h : ℕ) → h ≤ x → (x ≡ h → ⊥) → h < x
-apart x h l n = go (ltb h x) refl
-  where
-    go : (b : Bool) → ltb h x ≡ b → h < x
-    go true e = ltb-true h x e
-    go false e = absurd (n (le_antisymm (ltb-false h x e) l))
 
 -- a set without hashes
 pub none-rise : (s : Bytes) (at n : ℕ) → n ≡ 0 → true ≡ rises compare (hashes_in s at n)
 unfolding rises hashes_of
 none-rise s at n e = ap (λ (k : ℕ). rises compare (hashes_in s at k)) (sym e)
 
--- what is left to look at: the hashes from place i on, above the last one
-abbrev pub Pass : Bytes → ℕ → ℕ → ℕ → ℕ → Type 0
-Pass s at n last i = rises compare (hashes_in s at n) ≡ rises_from compare last (drop i (hashes_in s at n))
+-- what is asked of each number and the next
+one_on : (k : ℕ) → suc k + 1 ≡ suc (k + 1)
+one_on k = omega arith
 
-module _ (s : Bytes) (at n : ℕ) where
-  pub pass-start : (last : ℕ) → 0 < n → last ≡ hash_at s at 0 → Pass s at n last 1
+module _ {X : Type 0} (f : X → ℕ) where
+  turn : (x y : X) (ys : List X) → rises_from compare (f x) (map f (y ∷ ys)) ≡ ltb (f x) (f y) && rises_from compare (f y) (map f ys)
+  unfolding rises_from
+  turn x y ys = ap (λ (b : Bool). b && rises_from compare (f y) (map f ys)) (sym (less-than (f x) (f y)))
+
+  all-rise : (x : X) (xs : List X) → AllAdjacentBelow (λ y z. true ≡ ltb (f y) (f z)) (x ∷ xs) (length (x ∷ xs)) → rises_from compare (f x) (map f xs) ≡ true
+  unfolding rises_from
+  all-rise x [] h = refl
+  all-rise x (y ∷ ys) h =
+      turn x y ys ∙ and_intro (sym (h 0 x (omega arith))) (all-rise y ys (λ k d l. rw (one_on k) at (h (suc k) d (omega arith))))
+
+  one_falls : (x : X) (xs : List X) (k : ℕ) → k < length xs → ((d : X) → false ≡ ltb (f (get_or (x ∷ xs) k d)) (f (get_or (x ∷ xs) (k + 1) d))) → rises_from compare (f x) (map f xs) ≡ false
+  one_falls x [] k l h = absurd (not-suc-le-zero l)
+  one_falls x (y ∷ ys) zero l h = turn x y ys ∙ ap (λ (b : Bool). b && rises_from compare (f y) (map f ys)) (sym (h x))
+  one_falls x (y ∷ ys) (suc k) l h = turn x y ys ∙ and_no (ltb (f x) (f y)) _ (one_falls y ys k (omega arith) (λ d. rw (one_on k) at (h d)))
+    where
+      and_no : (a b : Bool) → b ≡ false → a && b ≡ false
+      and_no true b e = e
+      and_no false b e = refl
+
+  pub neighbours-rise : (xs : List X) (r : Bool) → IsAllAdjacentAnswer (λ x y b. b ≡ ltb (f x) (f y)) xs r → r ≡ rises compare (map f xs)
   unfolding rises
-  pass-start last h e =
-      ap (rises compare) (from_place s at n 0 h) ∙ ap (λ (x : ℕ). rises_from compare x (drop 1 (hashes_in s at n))) (sym e)
-
-  turn : (last i x : ℕ) → i < n → x ≡ hash_at s at i → rises_from compare last (drop i (hashes_in s at n)) ≡ ltb last x && rises_from compare x (drop (i + 1) (hashes_in s at n))
-  unfolding rises_from
-  turn last i x h e =
-      ap (rises_from compare last) (from_place s at n i h)
-      ∙ ap (λ (y : ℕ). is_lt (compare last y) && rises_from compare y (drop (i + 1) (hashes_in s at n))) (sym e)
-      ∙ ap (λ (t : Bool). t && rises_from compare x (drop (i + 1) (hashes_in s at n))) (sym (less-than last x))
-
-  pub pass_on : (last i x : ℕ) → Pass s at n last i → i < n → x ≡ hash_at s at i → last < x → Pass s at n x (i + 1)
-  pass_on last i x p h e l =
-      p ∙ turn last i x h e ∙ ap (λ (t : Bool). t && rises_from compare x (drop (i + 1) (hashes_in s at n))) (lt-ltb last x l)
-
-  pub pass-stop : (last i x : ℕ) → Pass s at n last i → i < n → x ≡ hash_at s at i → x ≤ last → false ≡ rises compare (hashes_in s at n)
-  pass-stop last i x p h e l =
-      sym (p ∙ turn last i x h e ∙ ap (λ (t : Bool). t && rises_from compare x (drop (i + 1) (hashes_in s at n))) (le-ltb last x l))
-
-  pub pass-end : (last i : ℕ) → Pass s at n last i → n ≤ i → true ≡ rises compare (hashes_in s at n)
-  unfolding rises_from
-  pass-end last i p h =
-      let l : length (hashes_in s at n) ≤ i = rw length-hashes h in
-      sym (p ∙ ap (rises_from compare last) (drop_of_length-le (hashes_in s at n) l))
+  neighbours-rise [] true h = refl
+  neighbours-rise [] false h = let l = h.1 in absurd (omega arith)
+  neighbours-rise (x ∷ xs) true h = sym (all-rise x xs h)
+  neighbours-rise (x ∷ xs) false h = let l = h.1 in sym (one_falls x xs h.0 (omega arith) h.2)

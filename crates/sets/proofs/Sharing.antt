@@ -1,4 +1,4 @@
--- The smallest hash in both of two rising sets, and the pass that finds it.
+-- The smallest hash in both of two rising sets.
 -- Assumes nothing.
 use Prim.Native.Nat.{ℕ, zero, suc, ◌+◌, ◌≤◌, ◌<◌, compare}
 use native.Mathlib.Omega.{arith}
@@ -7,37 +7,32 @@ use mathlib.Core.Path.{◌≡◌, refl, sym, ap, ◌∙◌}
 use mathlib.Core.Bool.{Bool, true, false, cond}
 use mathlib.Core.List.{List, [], ◌∷◌}
 use mathlib.Core.Option.{Option, none, some}
-use lib.ListN.{length, drop, drop_of_length-le}
+use lib.ListN.{length}
 use lib.Dec.{ltb}
 use borrow.Author.Tests.{ltb-true, ltb-false, eq-eqb, ne_eqb}
 use Rattle.paper.specs.Lists.{keep, first, rises_from, rises, among}
-use Rattle.paper.specs.Keys.{Bytes}
-use Rattle.sets.specs.Sets.{hashes_in, hash_at, shared_hash}
-use Rattle.sets.specs.declared.Shared.{Shared}
-use Rattle.sets.specs.declared.Shared.TheVariants.{Hash, Nothing}
-use Rattle.sets.proofs.Hashes.{length-hashes, from_place}
+use Rattle.std.specs.Prelude.{Option as Answer, Some, None, option_map}
+use Rattle.std.specs.List.{find}
+use Rattle.raw.specs.Options.{said}
 use Rattle.sets.proofs.Risings.{rises-head, rises-tail, rises-drop, none_below}
 
--- answers that say the same are the same
-pub shared_same : (a b : Shared) → shared_hash a ≡ shared_hash b → a ≡ b
-shared_same (Hash g) (Hash h) e = cc
-shared_same (Hash g) Nothing e = cc
-shared_same Nothing (Hash h) e = cc
-shared_same Nothing Nothing e = refl
+pub same-answer : (a : Answer ℕ) → option_map (λ h. h) a ≡ a
+same-answer (Some h) = refl
+same-answer None = refl
+
+-- the first that passes a test is the first of those that do
+pub first-kept : (p : ℕ → Bool) (hs : List ℕ) → said (find p hs) ≡ first (keep p hs)
+unfolding keep
+first-kept p [] = refl
+first-kept p (h ∷ hs) = go (p h) (first-kept p hs)
+  where
+    go : (b : Bool) → said (find p hs) ≡ first (keep p hs) → said (cond b (Some h) (find p hs)) ≡ first (cond b (h ∷ keep p hs) (keep p hs))
+    go true e = refl
+    go false e = e
 
 -- the first element of the first list that is in the second too
 abbrev pub in_both : List ℕ → List ℕ → Option ℕ
 in_both xs ys = first (keep (λ h. among h ys) xs)
-
--- ---- at the front of the first list
-
-both-there : (x : ℕ) (xs ys : List ℕ) → among x ys ≡ true → in_both (x ∷ xs) ys ≡ some x
-unfolding keep
-both-there x xs ys e = simp e
-
-both-not : (x : ℕ) (xs ys : List ℕ) → among x ys ≡ false → in_both (x ∷ xs) ys ≡ in_both xs ys
-unfolding keep
-both-not x xs ys e = simp e
 
 -- ---- at the front of two rising lists
 
@@ -87,25 +82,3 @@ swapped (suc n) (x ∷ xs) (y ∷ ys) l ra rb =
 
 pub both-swap : (xs ys : List ℕ) → rises compare xs ≡ true → rises compare ys ≡ true → in_both xs ys ≡ in_both ys xs
 both-swap xs ys = swapped (length xs + length ys) xs ys (omega arith)
-
--- ---- the pass, at place i of the set from a; ys is the other set
-
-abbrev pub Shares : Bytes → ℕ → ℕ → List ℕ → ℕ → Type 0
-Shares s a n ys i = in_both (hashes_in s a n) ys ≡ in_both (drop i (hashes_in s a n)) ys
-
-module _ (s : Bytes) (a n : ℕ) (ys : List ℕ) (i : ℕ) (S : Shares s a n ys i) where
-  pub shares-no-more : n ≤ i → none ≡ in_both (hashes_in s a n) ys
-  unfolding keep
-  shares-no-more h =
-      let l : length (hashes_in s a n) ≤ i = rw length-hashes h in
-      sym (S ∙ ap (λ (t : List ℕ). in_both t ys) (drop_of_length-le (hashes_in s a n) l))
-
-  module _ (x : ℕ) (p : i < n) (ex : x ≡ hash_at s a i) where
-    front : in_both (hashes_in s a n) ys ≡ in_both (x ∷ drop (i + 1) (hashes_in s a n)) ys
-    front = S ∙ ap (λ (t : List ℕ). in_both t ys) (from_place s a n i p ∙ ap (λ (z : ℕ). z ∷ drop (i + 1) (hashes_in s a n)) (sym ex))
-
-    pub shares-here : among x ys ≡ true → some x ≡ in_both (hashes_in s a n) ys
-    shares-here e = sym (front ∙ both-there x (drop (i + 1) (hashes_in s a n)) ys e)
-
-    pub shares-next : among x ys ≡ false → Shares s a n ys (i + 1)
-    shares-next e = front ∙ both-not x (drop (i + 1) (hashes_in s a n)) ys e

@@ -1,125 +1,83 @@
-// Sets of hashes in a lent buffer: 4 bytes a hash, big-endian, strictly rising, so that none stands in a set twice.
+// Sets of hashes in lent bytes: 4 bytes a hash, big-endian, strictly rising, so that none stands in a set twice.
 #![tactic(auto)]
 
-ghost use Rattle.std.specs.Prelude.{◌≡◌, true, length};
+ghost use Rattle.std.specs.Prelude.{◌≡◌, true, length, map, Err};
 ghost use Prim.Native.Nat.{◌+◌, ◌*◌, ◌≤◌, ◌<◌, compare};
 ghost use Rattle.paper.specs.Lists.{rises, insert, keep, first, among};
+ghost use Rattle.paper.specs.Image.{number_from};
+ghost use Rattle.paper.specs.Sound.{is_set};
 ghost use Rattle.raw.specs.Bytes.{over};
+ghost use Rattle.raw.specs.Options.{said};
 ghost use Rattle.layout.specs.Layout.{hashes};
-ghost use Rattle.sets.specs.Sets.{hashes_in, hash_at, found_in, shared_hash};
+ghost use Rattle.sets.specs.Sets.{hashes_of, set_hashes, found_in};
 
-// Where a hash stands in a set, or the place before which it would stand.
-#[derive(Clone, Copy)]
-pub enum Found {
-    At { i: usize },
-    Gap { i: usize },
-}
-
-// The smallest hash that two sets share, if they share one.
-#[derive(Clone, Copy)]
-pub enum Shared {
-    Hash { hash: u64 },
-    Nothing,
-}
-
-// The hash at place i of the set from `at`.
-pub fn hash_at(s: &[u8], at: usize, i: usize) -> u64
-    requires { at + 4 * i + 4 ≤ length s.now }
-    ensures { (result ≡ hash_at s.now at i) × (result < 4294967296) }
+// The hash in 4 bytes.
+fn hash_of(bytes: &[u8; 4]) -> u64
+    ensures value { result ≡ number_from 0 bytes.now }
+    ensures fits { result < 4294967296 }
 {
-    raw::be32(s, at + 4 * i)
+    u64::from(u32::from_be_bytes(*bytes))
 }
 
-// Whether the n hashes from `at` rise strictly: 'sets without repeats' in one pass.
-pub fn rising(s: &[u8], at: usize, n: usize) -> bool
-    requires { at + 4 * n ≤ length s.now }
-    ensures { result ≡ rises compare (hashes_in s.now at n) }
+// The hashes of a set, each in its 4 bytes.
+fn set_hashes(set: &[u8]) -> &[[u8; 4]]
+    ensures { map (λ b. number_from 0 b) result.now ≡ set_hashes set.now }
 {
-    if n == 0 {
-        return true;
-    }
-    let mut last = hash_at(s, at, 0);
-    let mut i = 1;
-    while i < n {
-        let h = hash_at(s, at, i);
-        if h <= last {
-            return false;
-        }
-        last = h;
-        i += 1;
-    }
-    true
+    set.as_chunks::<4>().0
 }
 
-// Looks for h in a set by halves: those before `low` are below h, those from `high` on above it.
-pub fn find_hash(s: &[u8], at: usize, n: usize, h: u64) -> Found
-    requires { (at + 4 * n ≤ length s.now) × (rises compare (hashes_in s.now at n) ≡ true) }
-    ensures { result ≡ found_in h (hashes_in s.now at n) }
+// Whether the hashes rise strictly: 'sets without repeats' in one pass.
+pub fn rising(set: &[u8]) -> bool
+    ensures rises { result ≡ rises compare (set_hashes set.now) }
+    ensures set { result ≡ is_set (set_hashes set.now) }
 {
-    let mut low = 0;
-    let mut high = n;
-    while low < high {
-        let mid = low + (high - low) / 2;
-        let x = hash_at(s, at, mid);
-        if x == h {
-            return Found::At { i: mid };
-        }
-        if x < h {
-            low = mid + 1;
-        } else {
-            high = mid;
-        }
-    }
-    Found::Gap { i: low }
+    set_hashes(set).is_sorted_by(|a, b| hash_of(a) < hash_of(b))
+}
+
+// Looks for h in a set by halves: `Ok` has its place, and `Err` the place before which it would stand.
+pub fn find_hash(set: &[u8], h: u64) -> Result<usize, usize>
+    requires { rises compare (set_hashes set.now) ≡ true }
+    ensures { result ≡ found_in h (set_hashes set.now) }
+{
+    set_hashes(set).binary_search_by_key(&h, hash_of)
 }
 
 // Whether h is in a set.
-pub fn among(s: &[u8], at: usize, n: usize, h: u64) -> bool
-    requires { (at + 4 * n ≤ length s.now) × (rises compare (hashes_in s.now at n) ≡ true) }
-    ensures { result ≡ among h (hashes_in s.now at n) }
+pub fn among(set: &[u8], h: u64) -> bool
+    requires { rises compare (set_hashes set.now) ≡ true }
+    ensures { result ≡ among h (set_hashes set.now) }
 {
-    match find_hash(s, at, n, h) {
-        Found::At { i: _ } => true,
-        Found::Gap { i: _ } => false,
-    }
+    find_hash(set, h).is_ok()
 }
 
-// Puts h, which is not in the set, into it before place i: those from there on move up by one.
-pub fn insert_hash(s: &mut [u8], at: usize, n: usize, i: usize, h: u64)
-    requires { (at + 4 * n + 4 ≤ length s.old) × (rises compare (hashes_in s.old at n) ≡ true) × (Found.Gap i ≡ found_in h (hashes_in s.old at n)) }
-    ensures { s.new ≡ over s.old at (hashes.form (insert compare h (hashes_in s.old at n))) }
+// Puts h, which is not among the n hashes in front of a room, before the one at place i: those from there on move up by one.
+pub fn insert_hash(room: &mut [u8], n: usize, i: usize, h: u64)
+    requires { (4 * n + 4 ≤ length room.old) × (rises compare (hashes_of n room.old) ≡ true) × (Err i ≡ found_in h (hashes_of n room.old)) }
+    ensures { room.new ≡ over room.old 0 (hashes.form (insert compare h (hashes_of n room.old))) }
 {
-    let place = at + 4 * i;
-    raw::shift(s, place, place + 4, 4 * (n - i));
-    raw::put_be32(s, place, h);
+    let place = 4 * i;
+    raw::shift(room, place, place + 4, 4 * (n - i));
+    raw::put_number::<4>(room, place, h);
 }
 
-// Puts h into a set, where it may stand already, and tells how many hashes the set then has.
-pub fn add_hash(s: &mut [u8], at: usize, n: usize, h: u64) -> usize
-    requires { (at + 4 * n ≤ length s.old) × (rises compare (hashes_in s.old at n) ≡ true) × (at + 4 * length (insert compare h (hashes_in s.old at n)) ≤ length s.old) }
-    ensures { (result ≡ length (insert compare h (hashes_in s.old at n))) × (s.new ≡ over s.old at (hashes.form (insert compare h (hashes_in s.old at n)))) }
+// Puts h into the set of the n hashes in front of a room, where it may stand already, and tells how many hashes the set then has.
+pub fn add_hash(room: &mut [u8], n: usize, h: u64) -> usize
+    requires { (4 * n ≤ length room.old) × (rises compare (hashes_of n room.old) ≡ true) × (4 * length (insert compare h (hashes_of n room.old)) ≤ length room.old) }
+    ensures { (result ≡ length (insert compare h (hashes_of n room.old))) × (room.new ≡ over room.old 0 (hashes.form (insert compare h (hashes_of n room.old)))) }
 {
-    match find_hash(s, at, n, h) {
-        Found::At { i: _ } => n,
-        Found::Gap { i } => {
-            insert_hash(s, at, n, i, h);
+    match find_hash(&room[..4 * n], h) {
+        Ok(_) => n,
+        Err(gap) => {
+            insert_hash(room, n, gap, h);
             n + 1
         }
     }
 }
 
-// The smallest hash of the set from a that stands in the set from b too: each of a's is looked for in b by halves, so a is best the one with fewer.
-pub fn first_shared(s: &[u8], a: usize, n: usize, b: usize, m: usize) -> Shared
-    requires { (a + 4 * n ≤ length s.now) × (b + 4 * m ≤ length s.now) × (rises compare (hashes_in s.now b m) ≡ true) }
-    ensures { shared_hash result ≡ first (keep (λ h. among h (hashes_in s.now b m)) (hashes_in s.now a n)) }
+// The smallest hash of the set a that stands in the set b too: each of a's is looked for in b by halves, so a is best the one with fewer.
+pub fn first_shared(a: &[u8], b: &[u8]) -> Option<u64>
+    requires { rises compare (set_hashes b.now) ≡ true }
+    ensures { said result ≡ first (keep (λ h. among h (set_hashes b.now)) (set_hashes a.now)) }
 {
-    let mut i = 0;
-    while i < n {
-        let h = hash_at(s, a, i);
-        if among(s, b, m, h) {
-            return Shared::Hash { hash: h };
-        }
-        i += 1;
-    }
-    Shared::Nothing
+    set_hashes(a).iter().map(hash_of).find(|h| among(b, *h))
 }

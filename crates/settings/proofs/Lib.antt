@@ -1,5 +1,4 @@
 -- Laws of the settings, and of the parts of a sound state.
-pub mod Ranges
 pub mod Shapes
 pub mod Reading
 pub mod Writing

@@ -5,10 +5,12 @@ use native.Mathlib.Omega.{arith}
 use mathlib.Core.Path.{◌≡◌, refl, sym, ap, ◌∙◌, subst}
 use mathlib.Core.Bool.{Bool, true, false, ◌&&◌, cond}
 use mathlib.Core.Option.{Option, none, some}
+use Rattle.std.specs.Prelude.{Option as Found, Some, None}
+use Rattle.std.specs.Bool.{then_some}
 use lib.ListN.{length, take, drop, length-take, length-drop}
 use lib.Seq.{drop-drop, length-take-le}
 use lib.Dec.{leb, eqb, lit<}
-use borrow.Author.Tests.{le-leb, lt-leb, leb-true, leb-false, eqb-true, eqb-false, eq-eqb, ne_eqb}
+use borrow.Author.Tests.{le-leb, leb-true, leb-false, eqb-true, eqb-false, eq-eqb, ne_eqb}
 use Rattle.paper.specs.Keys.{Bytes}
 use Rattle.paper.specs.Lists.{is_some}
 use Rattle.paper.specs.Image.{bytes, number_from, number, Reading, after, give, ◌>>=◌}
@@ -23,8 +25,6 @@ use Rattle.layout.specs.Offsets.{start_clock}
 use Rattle.layout.specs.Layout.{to_settings, from_settings, settings_stream, settings_slot, settings_in, store_in, sound_state}
 use Rattle.layout.proofs.SoundState.{sound-held, sound-in}
 use Rattle.settings.specs.declared.Settings.{Settings as Given}
-use Rattle.settings.specs.declared.Read.{Read}
-use Rattle.settings.specs.declared.Read.TheVariants.{Good, Bad}
 use Rattle.settings.specs.Opening.{settings_of, only_if, good_in, answered}
 
 -- the number in the 8 bytes at an offset
@@ -198,17 +198,16 @@ module _ (b : Bytes) where
     unfolding good_in test
     tested t h = sym (ap (only_if (λ s. in_ranges s && buffer_fits s (length b))) (sym e) ∙ ap (λ u. cond u (some st) none) h)
 
-    pub range-bad : in_ranges st ≡ false → none ≡ good_in b
-    unfolding test
-    range-bad h = tested false (ap (λ u. u && buffer_fits st (length b)) h)
-
-    pub length-bad : in_ranges st ≡ true → length b < state_length st → none ≡ good_in b
-    unfolding test
-    length-bad h l = tested false (ap (λ u. u && buffer_fits st (length b)) h ∙ lt-leb (state_length st) (length b) l)
-
     pub all-good : in_ranges st ≡ true → state_length st ≤ length b → some st ≡ good_in b
     unfolding test
     all-good h l = tested true (and_intro h (le-leb (state_length st) (length b) l))
+
+  -- whatever the test says of those in front
+  pub good-tested : (g : Given) → some (settings_of g) ≡ settings_in b → (t : Bool) → in_ranges (settings_of g) && buffer_fits (settings_of g) (length b) ≡ t
+      → answered (then_some t g) ≡ good_in b
+  unfolding test
+  good-tested g e true h = tested (settings_of g) e true h
+  good-tested g e false h = tested (settings_of g) e false h
 
   -- settings that were found
   pub ready : (st : Settings) → good_in b ≡ some st → Ready b st
@@ -256,8 +255,8 @@ pub settings-same : (a b : Given) → settings_of a ≡ settings_of b → a ≡ 
 unfolding given_of
 settings-same a b e = ap given_of e
 
-pub answered-same : (r q : Read) → answered r ≡ answered q → r ≡ q
-answered-same (Good a) (Good b) e = let f : settings_of a ≡ settings_of b = cc in ap Good (settings-same a b f)
-answered-same (Good a) Bad e = cc
-answered-same Bad (Good b) e = cc
-answered-same Bad Bad e = refl
+pub answered-same : (r q : Found Given) → answered r ≡ answered q → r ≡ q
+answered-same (Some a) (Some b) e = let f : settings_of a ≡ settings_of b = cc in ap Some (settings-same a b f)
+answered-same (Some a) None e = cc
+answered-same None (Some b) e = cc
+answered-same None None e = refl

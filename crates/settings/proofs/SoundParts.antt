@@ -37,7 +37,7 @@ use Rattle.layout.proofs.SoundState.{no_store-unsound}
 use Rattle.layout.proofs.Changes.{places-end, has-place}
 use Rattle.settings.specs.Opening.{good_in}
 use Rattle.settings.specs.Parts.{holds_of, or_empty, every, clock_in, counter_in, rows_ok, history_ok, active_ok, area_ok, place_sound, place_ok, rows_in, active_in, frozen_in, places_in, places_ok, part_rules, tie_rules, parts_sound}
-use Rattle.settings.proofs.Ranges.{and-false}
+use Rattle.std.proofs.Math.Bool.{and-false}
 use Rattle.settings.proofs.Reading.{number-here, Ready, ready, ready-good, sound-ready}
 
 -- ---- tests
@@ -82,14 +82,7 @@ every-at p (suc n) h i l = go (every-at p n (and_left (every p n) (p n) h) i) (e
     go f true e = ap p (eqb-true i n e) ∙ and_right (every p n) (p n) h
     go f false e = f (omega (arith, eqb-false i n e))
 
-pub every-fails : (p : ℕ → Bool) (n i : ℕ) → i < n → p i ≡ false → every p n ≡ false
-every-fails p n i l e = go (every p n) refl
-  where
-    go : (t : Bool) → every p n ≡ t → every p n ≡ false
-    go true h = h ∙ sym (every-at p n h i l) ∙ e
-    go false h = h
-
-every_front : (p : ℕ → Bool) (n : ℕ) → every p (suc n) ≡ p 0 && every (λ i. p (suc i)) n
+pub every_front : (p : ℕ → Bool) (n : ℕ) → every p (suc n) ≡ p 0 && every (λ i. p (suc i)) n
 unfolding every
 every_front p zero = sym (same_truth (p 0 && true) (p 0) (and_left (p 0) true) (λ h. and_intro h refl))
 every_front p (suc n) = ap (λ t. t && p (suc n)) (every_front p n) ∙ and_assoc (p 0) (every (λ i. p (suc i)) n) (p (suc n))

@@ -1,14 +1,15 @@
 -- The opening settings as a host gives them, and as they stand in front of a state.
 -- Assumes nothing.
-use Rattle.std.specs.Prelude.{Bool, ◌&&◌, cond, length}
+use Rattle.std.specs.Prelude.{Bool, ◌&&◌, cond, ℕ, ◌*◌, List, map, length, Option as Found, Some, None}
+use Rattle.std.specs.List.{range_with_len}
 use Rattle.std.proofs.Math.Option.{Option, none, some}
 use Rattle.paper.specs.Keys.{Bytes}
+use Rattle.paper.specs.Image.{number_from}
 use Rattle.paper.specs.Settings.{Settings, in_ranges}
 use Rattle.paper.specs.Room.{buffer_fits}
+use Rattle.raw.specs.Bytes.{part}
 use Rattle.layout.specs.Layout.{settings_in}
 use Rattle.settings.specs.declared.Settings.{Settings as Given}
-use Rattle.settings.specs.declared.Read.{Read}
-use Rattle.settings.specs.declared.Read.TheVariants.{Good, Bad}
 
 -- the paper's settings: 'transactions ..; for each of them overlay bytes .., read hashes .., write hashes ..; history entries .. and hashes ..;
 -- active run bytes ..; run area ..'
@@ -36,6 +37,10 @@ unfoldable pub good_in : Bytes → Option Settings
 good_in b = only_if (λ st. in_ranges st && buffer_fits st (length b)) (settings_in b)
 
 -- what reading the settings in front of a state answers
-abbrev pub answered : Read → Option Settings
-answered (Good g) = some (settings_of g)
-answered Bad = none
+abbrev pub answered : Found Given → Option Settings
+answered (Some g) = some (settings_of g)
+answered None = none
+
+-- the nine numbers in front of a state, 8 bytes each
+abbrev pub front_numbers : Bytes → List ℕ
+front_numbers b = map (λ i. number_from 0 (part b (8 * i) 8)) (range_with_len 0 9)

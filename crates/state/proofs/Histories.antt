@@ -42,11 +42,11 @@ module _ (st : Settings) (s : Bytes) (at clock : ℕ) (fit : at + width_history 
       ∙ ap (λ p. holds_of (first_of p) (λ cs. hold_all (history_rules st clock cs))) (sized-cut (many commit_stream) s at (at + width_history st) fit (omega arith) n e l))
 
   history-is : at + 8 + n ≤ at + width_history st
-      → sound_read (cond st.serializable st.history_entries 0) st.history_hashes clock (history_read s (at + 8) (at + 8 + n)) ≡ history_ok st clock (part s at (width_history st))
+      → sound_read (cond st.serializable st.history_entries 0) st.history_hashes clock (history_read (part s (at + 8) (at + 8 + n - (at + 8)))) ≡ history_ok st clock (part s at (width_history st))
   unfolding history_ok history_slot room
   history-is l =
       let z : at + 8 + n - (at + 8) ≡ n = omega arith in
-      rules-read st clock (history_read s (at + 8) (at + 8 + n))
+      rules-read st clock (history_read (part s (at + 8) (at + 8 + n - (at + 8))))
       ∙ ap (λ (m : ℕ). holds_of ((many commit_stream).parse (part s (at + 8) m)) (λ cs. hold_all (history_rules st clock cs))) z
       ∙ sym (ap (λ (u : Bytes). holds_of (first_of ((listed commit_stream).get u)) (λ cs. hold_all (history_rules st clock cs))) (sym same)
       ∙ ap (λ p. holds_of (first_of p) (λ cs. hold_all (history_rules st clock cs))) (sized-here (many commit_stream) s at (at + width_history st) fit (omega arith) n e l)
@@ -61,9 +61,9 @@ module _ (st : Settings) (z : Shape) (S : Shaped st z) (b : Bytes) (clock : ℕ)
   history-short l = history-cut st b z.history clock (omega (arith, S.history-wide)) n e (omega (arith, S.history-wide)) ∙ here
 
   pub history-told : (entries : ℕ) → n ≤ z.active - (z.history + 8) → entries ≡ cond z.serializable z.entries 0
-      → sound_read entries z.hashes clock (history_read b (z.history + 8) (z.history + 8 + n)) ≡ history_ok st clock (history_part st b)
+      → sound_read entries z.hashes clock (history_read (part b (z.history + 8) (z.history + 8 + n - (z.history + 8)))) ≡ history_ok st clock (history_part st b)
   history-told entries l f =
-      let o : Option (List Commit) = history_read b (z.history + 8) (z.history + 8 + n) in
+      let o : Option (List Commit) = history_read (part b (z.history + 8) (z.history + 8 + n - (z.history + 8))) in
       let q : entries ≡ cond st.serializable st.history_entries 0 = f ∙ ap₂ (λ (m : Bool) (k : ℕ). cond m k 0) S.serializable S.entries in
       ap₂ (λ (x y : ℕ). sound_read x y clock o) q S.hashes
       ∙ history-is st b z.history clock (omega (arith, S.history-wide)) n e (omega (arith, S.history-wide))

@@ -1,45 +1,34 @@
 -- Where the parts of a state with good settings lie in it.
 -- Assumes nothing.
 use native.Mathlib.Omega.{arith}
-use mathlib.Core.Path.{◌≡◌}
+use mathlib.Core.Path.{◌≡◌, ap, ◌∙◌}
+use Rattle.std.proofs.lemmas.Nat.{div-mul-add}
 use mathlib.Core.Bool.{true}
 use mathlib.Core.Option.{some}
-use Prim.Native.Nat.{ℕ, ◌+◌, ◌*◌, ◌-◌, ◌≤◌, ◌<◌}
+use Prim.Native.Nat.{ℕ, ◌+◌, ◌*◌, ◌/◌}
 use lib.ListN.{length}
-use Rattle.paper.specs.Keys.{Bytes}
+use Rattle.paper.specs.Keys.{Bytes, octets}
 use Rattle.paper.specs.Settings.{Settings, in_ranges}
 use Rattle.raw.specs.Bytes.{part}
 use Rattle.raw.proofs.Parts.{length_part}
-use Rattle.layout.specs.Offsets.{width_history, width_active, width_area}
 use Rattle.layout.proofs.SoundFits.{ranged}
 use Rattle.settings.specs.Opening.{good_in}
 use Rattle.settings.specs.Shapes.{shape_of}
 use Rattle.settings.specs.declared.Shape.{Shape}
-use Rattle.settings.proofs.Shapes.{Shaped, shaped}
+use Rattle.settings.proofs.Shapes.{shaped}
 use Rattle.settings.proofs.Reading.{ready}
-
-pub record Lies (b : Bytes) (st : Settings) (z : Shape) : Type 0 where
-  pub shape : Shaped st z
-  pub rows : z.history ≡ 96 + 16 * st.transactions
-  pub history : z.history + width_history st ≡ z.active
-  pub active : z.active + width_active st ≡ z.area
-  pub area : z.area + width_area st ≡ z.places
-  pub inside : z.places + z.count * z.stride ≤ length b
-  pub seat : (i : ℕ) → i < z.count → z.places + i * z.stride + z.stride ≤ length b
-  pub few : z.count ≤ 64
-  pub wide : z.stride ≡ 48 + z.own + 4 * z.reads + 4 * z.writes
-  pub hashes : z.writes ≤ 4096
-  pub small : z.places + z.count * z.stride < 134217728
+use Rattle.state.specs.Lying.{Lies}
 
 pub ranges-good : (b : Bytes) (st : Settings) → good_in b ≡ some st → in_ranges st ≡ true
 ranges-good b st g = (ready b st g).ranges
 
-pub lies : (b : Bytes) (st : Settings) (z : Shape) → good_in b ≡ some st → z ≡ shape_of st → Lies b st z
-lies b st z g e =
+pub lies : (b : Bytes) (st : Settings) (z : Shape) → octets b ≡ true → good_in b ≡ some st → z ≡ shape_of st → Lies b st z
+lies b st z o g e =
     let r = ready b st g in
     let S = shaped st r.ranges z e in
     let n = r.enough in
     record {
+      bytes = o;
       shape = S;
       rows = omega (arith, S.rows-wide);
       history = S.history-wide;
@@ -53,6 +42,8 @@ lies b st z g e =
       small = omega (arith, S.places-wide, S.small);
     }
 
--- a slice of so many bytes
-pub slice-long : (b : Bytes) (at w : ℕ) → at + w ≤ length b → length (part b at (at + w - at)) ≡ w
-slice-long b at w l = let e : at + w - at ≡ w = omega arith in omega (arith, length_part b at (at + w - at) (omega arith))
+-- how many places the slice of them has
+pub seats-many : (b : Bytes) (st : Settings) (z : Shape) → Lies b st z → (q : Bytes) → q ≡ part b z.places (z.count * z.stride) → length q / z.stride ≡ z.count
+seats-many b st z h q e =
+    let l : length q ≡ z.count * z.stride + 0 = ap length e ∙ length_part b z.places (z.count * z.stride) h.inside ∙ omega arith in
+    ap (λ (n : ℕ). n / z.stride) l ∙ div-mul-add z.count z.stride 0 (omega (arith, h.wide))

@@ -1,22 +1,27 @@
 -- The places of a state, one after the other.
 -- Assumes nothing.
 use native.Mathlib.Omega.{arith}
-use mathlib.Core.Path.{◌≡◌, refl, sym, ap, ap₂, ◌∙◌, subst}
-use mathlib.Core.Bool.{Bool, true, false, ◌&&◌}
+use mathlib.Core.Path.{◌≡◌, refl, sym, ap, ap₂, ◌∙◌}
+use mathlib.Core.Bool.{Bool, ◌&&◌}
 use mathlib.Core.Option.{Option, none, some}
-use Prim.Native.Nat.{ℕ, zero, suc, ◌+◌, ◌*◌, ◌-◌, ◌<◌}
+use Prim.Native.Nat.{ℕ, zero, suc, ◌+◌, ◌*◌, ◌/◌, ◌<◌, ◌≤◌}
 use Rattle.paper.specs.Keys.{Bytes}
 use Rattle.paper.specs.Settings.{Settings}
 use Rattle.paper.specs.Store.{Txn}
-use Rattle.paper.proofs.Bools.{and_intro}
 use Rattle.raw.specs.Bytes.{part}
-use Rattle.layout.specs.Offsets.{stride, place_part}
+use Rattle.raw.proofs.Parts.{part-part, part-of-drop}
+use native.Mathlib.Nat.{suc-mul, zero-mul, mul-le-mul_right}
+use lib.ListN.{length, drop}
+use Rattle.std.specs.List.{list_all}
+use Rattle.std.specs.Simd.{first_chunks}
+use Rattle.table.proofs.Seats.{seats}
+use Rattle.layout.specs.Offsets.{place_part}
 use Rattle.layout.specs.Layout.{place_slot}
 use Rattle.settings.specs.Parts.{holds_of, every, place_sound, place_ok}
 use Rattle.settings.specs.declared.Shape.{Shape}
 use Rattle.settings.proofs.Shapes.{Shaped}
-use Rattle.settings.proofs.SoundParts.{every-fails}
-use Rattle.txn.specs.Place.{settings_of, rooms_of}
+use Rattle.settings.proofs.SoundParts.{every_front}
+use Rattle.txn.specs.Place.{settings_of, rooms_of, rooms_in}
 use Rattle.txn.specs.Checks as checks
 use Rattle.txn.specs.declared.Rooms.{Rooms}
 use Rattle.txn.proofs.Callers.{sound-same}
@@ -24,32 +29,31 @@ use Rattle.state.specs.Whole.{seats_ok}
 
 -- what the check of a place says
 abbrev pub seat_ok : Shape → Rooms → ℕ → ℕ → Bytes → ℕ → Bool
-seat_ok z rooms counter clock b i = checks.place_sound (settings_of z.serializable rooms) counter clock (part b (z.places + i * z.stride) z.stride)
+seat_ok z rooms counter clock b i = checks.place_sound (settings_of rooms.serializable rooms) counter clock (part b (z.places + i * z.stride) z.stride)
 
 -- the rooms that a shape grants
-pub rooms-are : (st : Settings) (z : Shape) → Shaped st z → (record { own = z.own; reads = z.reads; writes = z.writes }) ≡ rooms_of st
-rooms-are st z S = let e = S.own in let f = S.reads in let g = S.writes in cc
+pub rooms-are : (st : Settings) (z : Shape) → Shaped st z → rooms_in z ≡ rooms_of st
+rooms-are st z S = let e = S.own in let f = S.reads in let g = S.writes in let h = S.serializable in cc
 
--- every place passed is as it should be
-unfoldable pub Seated : Shape → Rooms → ℕ → ℕ → Bytes → ℕ → Type 0
-Seated z rooms counter clock b n = every (seat_ok z rooms counter clock b) n ≡ true
+-- two tests that agree below n
+every-below : (f g : ℕ → Bool) (n : ℕ) → ((i : ℕ) → i < n → f i ≡ g i) → every f n ≡ every g n
+unfolding every
+every-below f g zero h = refl
+every-below f g (suc n) h = ap₂ (λ x y. x && y) (every-below f g n (λ i l. h i (omega arith))) (h n (omega arith))
+
+-- place i lies among n of them
+step : (i n w : ℕ) → i < n → i * w + w ≤ n * w
+step i n w h = omega (arith, suc-mul i w, mul-le-mul_right w h)
+
+-- the places of a slice, one by one
+all-every : (f : Bytes → Bool) (w n : ℕ) (q : Bytes) → list_all f (first_chunks w n q) ≡ every (λ i. f (part q (i * w) w)) n
+all-every f w zero q = unfold every in refl
+all-every f w (suc n) q =
+    ap₂ (λ x y. x && y) (let e : 0 ≡ 0 * w = omega (arith, zero-mul w) in ap (λ (j : ℕ). f (part q j w)) e)
+    (all-every f w n (drop w q) ∙ every-below (λ i. f (part (drop w q) (i * w) w)) (λ i. f (part q (suc i * w) w)) n (λ i l. ap f (part-of-drop q w (i * w) w ∙ ap (λ (j : ℕ). part q j w) (omega (arith, suc-mul i w)))))
+    ∙ sym (every_front (λ i. f (part q (i * w) w)) n)
 
 module _ (z : Shape) (rooms : Rooms) (counter clock : ℕ) (b : Bytes) where
-  -- the check of a place where it begins
-  pub seat-told : (i at : ℕ) → at ≡ z.places + i * z.stride → (r : Bool) → r ≡ checks.place_sound (settings_of z.serializable rooms) counter clock (part b at (at + z.stride - at))
-      → seat_ok z rooms counter clock b i ≡ r
-  seat-told i at e r h =
-      let w : at + z.stride - at ≡ z.stride = omega arith in
-      sym (h ∙ ap₂ (λ (j n : ℕ). checks.place_sound (settings_of z.serializable rooms) counter clock (part b j n)) e w)
-
-  pub none-seated : Seated z rooms counter clock b 0
-  unfolding Seated every
-  none-seated = refl
-
-  pub more-seated : (n : ℕ) → Seated z rooms counter clock b n → seat_ok z rooms counter clock b n ≡ true → Seated z rooms counter clock b (n + 1)
-  unfolding Seated every
-  more-seated n h e = let m : suc n ≡ n + 1 = omega arith in subst (λ (k : ℕ). every (seat_ok z rooms counter clock b) k ≡ true) m (and_intro h e)
-
   module _ (st : Settings) (S : Shaped st z) (r : rooms ≡ rooms_of st) where
     -- under the settings' own words
     passes_same : (o : Option (Option Txn)) → checks.passes (checks.place_passes st counter clock) o ≡ holds_of o (place_sound st counter clock)
@@ -60,23 +64,24 @@ module _ (z : Shape) (rooms : Rooms) (counter clock : ℕ) (b : Bytes) where
     seat-same : (i : ℕ) → seat_ok z rooms counter clock b i ≡ place_ok st counter clock (place_part st b i)
     unfolding checks.place_sound place_ok
     seat-same i =
-        ap (λ (x : Bool). checks.place_sound (settings_of x rooms) counter clock (part b (z.places + i * z.stride) z.stride)) S.serializable
-        ∙ ap (λ (x : Rooms). checks.place_sound (settings_of st.serializable x) counter clock (part b (z.places + i * z.stride) z.stride)) r
+        ap (λ (x : Rooms). checks.place_sound (settings_of x.serializable x) counter clock (part b (z.places + i * z.stride) z.stride)) r
         ∙ ap₂ (λ (p w : ℕ). checks.place_sound (settings_of st.serializable (rooms_of st)) counter clock (part b (p + i * w) w)) S.places S.stride
         ∙ sound-same st counter clock (place_part st b i)
         ∙ passes_same ((place_slot st).read (place_part st b i))
 
-    every-same : (n : ℕ) → every (seat_ok z rooms counter clock b) n ≡ every (λ i. place_ok st counter clock (place_part st b i)) n
+    every_same : (n : ℕ) → every (seat_ok z rooms counter clock b) n ≡ every (λ i. place_ok st counter clock (place_part st b i)) n
     unfolding every
-    every-same zero = refl
-    every-same (suc n) = ap₂ (λ x y. x && y) (every-same n) (seat-same n)
+    every_same zero = refl
+    every_same (suc n) = ap₂ (λ x y. x && y) (every_same n) (seat-same n)
 
-    -- all of them passed
-    pub seats-good : (n : ℕ) → n ≡ z.count → Seated z rooms counter clock b n → true ≡ seats_ok st counter clock b
-    unfolding Seated seats_ok
-    seats-good n e h = sym (ap (λ (m : ℕ). every (λ i. place_ok st counter clock (place_part st b i)) m) (sym (e ∙ S.count)) ∙ sym (every-same n) ∙ h)
-
-    -- one did not
-    pub seats-bad : (i : ℕ) → i < z.count → seat_ok z rooms counter clock b i ≡ false → false ≡ seats_ok st counter clock b
+    -- all of them, as code lends them
+    pub seats-told : (q : Bytes) → q ≡ part b z.places (z.count * z.stride) → length q / z.stride ≡ z.count → (x : Bool)
+        → x ≡ list_all (checks.place_sound (settings_of rooms.serializable rooms) counter clock) (seats z.stride q) → x ≡ seats_ok st counter clock b
     unfolding seats_ok
-    seats-bad i l e = sym (every-fails (λ j. place_ok st counter clock (place_part st b j)) st.transactions i (omega (arith, S.count)) (sym (seat-same i) ∙ e))
+    seats-told q lent many x h =
+        let f : Bytes → Bool = checks.place_sound (settings_of rooms.serializable rooms) counter clock in
+        h ∙ all-every f z.stride (length q / z.stride) q
+        ∙ ap (every (λ i. f (part q (i * z.stride) z.stride))) many
+        ∙ every-below (λ i. f (part q (i * z.stride) z.stride)) (seat_ok z rooms counter clock b) z.count (λ i l. ap f (ap (λ (u : Bytes). part u (i * z.stride) z.stride) lent ∙ part-part b z.places (z.count * z.stride) (i * z.stride) z.stride (step i z.count z.stride l)))
+        ∙ every_same z.count
+        ∙ ap (every (λ i. place_ok st counter clock (place_part st b i))) S.count

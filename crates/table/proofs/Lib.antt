@@ -3,6 +3,7 @@ pub mod RowLaws
 pub mod RowBytes
 pub mod RowsRead
 pub mod Tags
+pub mod Seats
 pub mod RowsAnew
 pub mod RowSpots
 pub mod RowsLie

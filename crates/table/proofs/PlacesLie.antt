@@ -1,7 +1,7 @@
 -- The places of a state that read as transactions: their tags, handles and read numbers are the paper's, and the first place with a tag is where the
 -- paper finds, puts and seats a transaction.
 -- Assumes nothing.
-use Prim.Native.Nat.{ℕ, suc, ◌+◌, ◌*◌, ◌<◌, ◌≤◌}
+use Prim.Native.Nat.{ℕ, suc, ◌+◌, ◌*◌, ◌/◌, ◌<◌, ◌≤◌}
 use native.Mathlib.Omega.{arith}
 use native.Mathlib.Nat.{suc-mul, zero-mul}
 use mathlib.Core.Path.{◌≡◌, refl, sym, ap, ap₂, ◌∙◌, subst}
@@ -23,13 +23,14 @@ use Rattle.layout.specs.Offsets.{place_read, stride, start_places, place_at, pla
 use Rattle.layout.specs.Layout.{tag_of, place_slot, places_slot}
 use Rattle.layout.proofs.Streams.{All}
 use Rattle.layout.proofs.Slots.{kept-as}
-use Rattle.layout.proofs.LayoutLaws.{OkPlace, places-slot}
+use Rattle.layout.proofs.LayoutLaws.{OkPlace, places-slot, places-width}
 use Rattle.layout.proofs.Sides.{Has}
 use Rattle.layout.proofs.Places.{place-fits, seated, place-tag}
 use Rattle.layout.proofs.Changes.{has-place}
 use Rattle.table.specs.Places.{tag_at, read_at, tags_in, handles_in, reads_in, first_with, placed, found_in}
-use Rattle.table.specs.declared.Found.{Found}
-use Rattle.table.specs.declared.Found.TheVariants.{At, Nothing}
+use Rattle.std.specs.Prelude.{Option as Found, Some, None}
+use Rattle.std.proofs.lemmas.Nat.{div-mul-add}
+use Rattle.table.proofs.Seats.{tags-part, reads-part}
 
 -- a handle is no 0
 abbrev pub OkHandle : Option Txn → Type 0
@@ -207,40 +208,53 @@ module _ (s : Settings) (b : Bytes) (ps : List (Option Txn)) (h : Has (places_sl
   tags-are : tags_in b (start_places s) (stride s) s.transactions ≡ map tag_of ps
   tags-are = ap (tags_in b (start_places s) (stride s)) (sym count-is) ∙ tags-of b (stride s) (start_places s) ps each
 
-  -- the handles and the read numbers are the paper's
-  pub handles-are : handles_in b (start_places s) (stride s) s.transactions ≡ handles_of ps
-  unfolding handles_in
-  handles-are = ap (keep (λ t. not (eqb t 0))) tags-are ∙ kept-handles ps ok-handles
+  -- the slice of the places, as code lends it
+  abbrev lent : Bytes
+  lent = places_part s b
 
-  pub reads-are : reads_in b (start_places s) (stride s) s.transactions ≡ read_numbers_of ps
-  reads-are = ap (reads_in b (start_places s) (stride s)) (sym count-is) ∙ reads_of b (stride s) (start_places s) ps each
+  lent-many : length lent / stride s ≡ s.transactions
+  lent-many =
+      let e : length lent ≡ s.transactions * stride s + 0 = h.long ∙ places-width s ∙ omega arith in
+      ap (λ (m : ℕ). m / stride s) e ∙ div-mul-add s.transactions (stride s) 0 (omega arith)
+
+  lent-tags : tags_in lent 0 (stride s) (length lent / stride s) ≡ map tag_of ps
+  lent-tags = ap (tags_in lent 0 (stride s)) lent-many ∙ tags-part b (start_places s) (s.transactions * stride s) (stride s) (omega arith) s.transactions 0 (omega arith)
+      ∙ ap (λ (i : ℕ). tags_in b i (stride s) s.transactions) (omega arith) ∙ tags-are
+
+  -- the handles and the read numbers are the paper's
+  pub handles-are : handles_in lent 0 (stride s) (length lent / stride s) ≡ handles_of ps
+  unfolding handles_in
+  handles-are = ap (keep (λ t. not (eqb t 0))) lent-tags ∙ kept-handles ps ok-handles
+
+  pub reads-are : reads_in lent 0 (stride s) (length lent / stride s) ≡ read_numbers_of ps
+  reads-are =
+      ap (reads_in lent 0 (stride s)) lent-many ∙ reads-part b (start_places s) (s.transactions * stride s) (stride s) (omega arith) s.transactions 0 (omega arith)
+      ∙ ap₂ (λ (i n : ℕ). reads_in b i (stride s) n) (omega arith) (sym count-is) ∙ reads_of b (stride s) (start_places s) ps each
 
   -- what a search for a handle says
-  abbrev pub TxnFound : ℕ → Found → Type 0
-  TxnFound handle (At i p) = (p ≡ place_at s i) × TxnAt handle ps i
-  TxnFound handle Nothing = find_txn handle ps ≡ none
+  abbrev pub TxnFound : ℕ → Found ℕ → Type 0
+  TxnFound handle (Some i) = TxnAt handle ps i
+  TxnFound handle None = find_txn handle ps ≡ none
 
-  pub txn-found : (handle : ℕ) → 0 < handle → (r : Found) → r ≡ found_in b (start_places s) (stride s) s.transactions handle → TxnFound handle r
+  pub txn-found : (handle : ℕ) → 0 < handle → (r : Found ℕ) → r ≡ found_in lent 0 (stride s) (length lent / stride s) handle → TxnFound handle r
   unfolding found_in
   txn-found handle z r e =
-      subst (TxnFound handle) (sym (e ∙ ap (λ (ts : List ℕ). placed (start_places s) (stride s) (first_with handle ts)) tags-are))
-      (go (first_with handle (map tag_of ps)) (finds handle z ps))
+      subst (TxnFound handle) (sym (e ∙ ap (λ (ts : List ℕ). placed (first_with handle ts)) lent-tags)) (go (first_with handle (map tag_of ps)) (finds handle z ps))
     where
-      go : (o : Option ℕ) → Finds handle ps o → TxnFound handle (placed (start_places s) (stride s) o)
+      go : (o : Option ℕ) → Finds handle ps o → TxnFound handle (placed o)
       go none f = f
-      go (some i) f = (refl, f)
+      go (some i) f = f
 
   -- and a search for a free place
-  abbrev pub FreeFound : Found → Type 0
-  FreeFound (At i p) = (p ≡ place_at s i) × FreeAt ps i
-  FreeFound Nothing = length (txns_of ps) ≡ s.transactions
+  abbrev pub FreeFound : Found ℕ → Type 0
+  FreeFound (Some i) = FreeAt ps i
+  FreeFound None = length (txns_of ps) ≡ s.transactions
 
-  pub free-found : (r : Found) → r ≡ found_in b (start_places s) (stride s) s.transactions 0 → FreeFound r
+  pub free-found : (r : Found ℕ) → r ≡ found_in lent 0 (stride s) (length lent / stride s) 0 → FreeFound r
   unfolding found_in
   free-found r e =
-      subst FreeFound (sym (e ∙ ap (λ (ts : List ℕ). placed (start_places s) (stride s) (first_with 0 ts)) tags-are))
-      (go (first_with 0 (map tag_of ps)) (frees ps ok-handles))
+      subst FreeFound (sym (e ∙ ap (λ (ts : List ℕ). placed (first_with 0 ts)) lent-tags)) (go (first_with 0 (map tag_of ps)) (frees ps ok-handles))
     where
-      go : (o : Option ℕ) → Frees ps o → FreeFound (placed (start_places s) (stride s) o)
+      go : (o : Option ℕ) → Frees ps o → FreeFound (placed o)
       go none f = f ∙ count-is
-      go (some i) f = (refl, f)
+      go (some i) f = f

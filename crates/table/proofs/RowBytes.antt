@@ -3,12 +3,12 @@
 use Prim.Native.Nat.{ℕ, suc, ◌+◌, ◌*◌, ◌-◌, ◌^◌, ◌<◌, ◌≤◌}
 use native.Mathlib.Omega.{arith}
 use mathlib.Core.Path.{◌≡◌, refl, sym, ap, ap₂, ◌∙◌}
-use mathlib.Core.Bool.{true}
+use mathlib.Core.Bool.{true, cond}
 use mathlib.Core.List.{List, [], ◌∷◌, ◌++◌, append_assoc, append-nil}
 use mathlib.Core.Option.{Option, none, some}
 use lib.ListN.{length, take, drop, get_or, set, length-append, length-drop, length-set, take-append-drop}
 use lib.Seq.{length-take-le, take_at, drop_at, set_split, split_at, drop-append-add}
-use lib.Dec.{lit<}
+use lib.Dec.{ltb, lit<}
 use Rattle.paper.specs.Keys.{Bytes, octets}
 use Rattle.paper.specs.Lists.{is_some, join}
 use Rattle.paper.specs.Readers.{Row, row}
@@ -25,8 +25,10 @@ use Rattle.layout.proofs.LayoutLaws.{OkRow, row_laws, Listed}
 use Rattle.layout.proofs.Places.{number_of}
 use Rattle.layout.proofs.Inside.{all-at}
 use Rattle.layout.proofs.Sizes.{put-append, rows-form, rows_long}
-use Rattle.table.specs.Rows.{region_slot, read_in, or_empty, rows_in, lay_rows}
+use Rattle.table.specs.Rows.{region_slot, read_in, or_empty, rows_in, lay_rows, rows_before}
 use Rattle.table.proofs.RowLaws.{blank, time_at, count_at}
+use Rattle.table.proofs.Seats.{seats, seats-more, tag_of}
+use Rattle.std.specs.List.{prefix_len}
 
 -- ---- the bytes of rows
 abbrev pub pack : List Row → Bytes
@@ -333,3 +335,32 @@ module _ (b : Bytes) (R : Region b) where
       ∙ ap₂ (λ (u w : Bytes). Z ++ (u ++ w)) (sym v) (sym d)
       ∙ ap (λ (u : Bytes). u ++ (pack new ++ drop (16 * length new) (pack (rows_in b) ++ r))) (ap (big_endian 8) (sym z))
       ∙ sym (lay-form new)
+
+-- ---- the rows as `chunks_exact` cuts them off
+row_tag : (r : Row) → OkRow r → tag_of (row_stream.put r) ≡ r.time
+row_tag r k =
+    ap tag_of (row_put r)
+    ∙ ap (number_from 0) (take_at (big_endian 8 r.time) (big_endian 8 r.count) 8 (length-big_endian 8 r.time))
+    ∙ number_of r.time k.0
+
+row_wide : (r : Row) → length (row_stream.put r) ≡ 16
+row_wide r = ap length (row_put r) ∙ length-append (big_endian 8 r.time) (big_endian 8 r.count) ∙ omega (arith, length-big_endian 8 r.time, length-big_endian 8 r.count)
+
+-- the rows before t are those in front of which a smaller number stands
+before-packed : (t : ℕ) (rs : List Row) → All OkRow rs → prefix_len (λ q. ltb (tag_of q) t) (seats 16 (pack rs)) ≡ rows_before t rs
+unfolding rows_before put_all
+before-packed t [] k = refl
+before-packed t (r ∷ rs) k =
+    ap (prefix_len (λ q. ltb (tag_of q) t)) (seats-more 16 (lit< tt) (row_stream.put r) (pack rs) (row_wide r))
+    ∙ ap₂ (λ (n m : ℕ). cond (ltb n t) (1 + m) 0) (row_tag r k.0) (before-packed t rs k.1)
+    ∙ ap (λ (m : ℕ). cond (ltb r.time t) m 0) (omega arith)
+
+pub before-seats : (b : Bytes) (R : Region b) (t m : ℕ) → m ≡ 16 * length (rows_in b) → prefix_len (λ q. ltb (tag_of q) t) (seats 16 (part b 8 m)) ≡ rows_before t (rows_in b)
+before-seats b R t m e =
+    let h : Bytes = big_endian 8 (16 * length (rows_in b)) in
+    let l : length h ≡ 8 = length-big_endian 8 (16 * length (rows_in b)) in
+    let f : part b 8 m ≡ pack (rows_in b) =
+    ap₂ (λ (u : Bytes) (n : ℕ). take n (drop 8 u)) R.lies e
+    ∙ ap (take (16 * length (rows_in b))) (drop_at h (pack (rows_in b) ++ R.rest) 8 l)
+    ∙ take_at (pack (rows_in b)) R.rest (16 * length (rows_in b)) (pack-long (rows_in b)) in
+    ap (λ (u : Bytes). prefix_len (λ q. ltb (tag_of q) t) (seats 16 u)) f ∙ before-packed t (rows_in b) R.fits

@@ -9,16 +9,17 @@ use mathlib.Core.Bool.{Bool, true, false, not, cond, ◌||◌}
 use mathlib.Core.List.{List, [], ◌∷◌, ◌++◌}
 use lib.ListN.{length, take, drop, get_or, set}
 use lib.Dec.{ltb, eqb}
-use borrow.Author.Tests.{ltb-true, ltb-false, lt-ltb, le-ltb, eq-eqb, eqb-true, eqb-false, ne_eqb, le-leb, lt-leb}
+use borrow.Author.Tests.{ltb-true, ltb-false, eq-eqb, eqb-true, eqb-false, ne_eqb, le-leb, lt-leb}
 use Rattle.paper.specs.Lists.{any, keep, insert, is_lt, rises_from, rises}
 use Rattle.paper.specs.Readers.{Row, row, cmp_row, readers_at, add_reader, remove_reader, watermark}
 use Rattle.paper.proofs.Bools.{and_left, and_right, is_lt-lt}
 use Rattle.paper.proofs.Order.{turned, compare_same, compare-turn, compare-lt, lt-compare}
 use Rattle.paper.proofs.Rising.{rises-of}
 use Rattle.paper.proofs.ReaderLaws.{row-order}
-use Rattle.table.specs.Rows.{rows_before, has_row, spot_of}
+use Rattle.std.specs.Prelude.{Result, Ok, Err}
+use Rattle.table.specs.Rows.{rows_before, has_row, here, gap, spot_of}
 use Rattle.table.specs.declared.Spot.{Spot}
-use Rattle.table.specs.declared.Spot.TheVariants.{Here, Gap}
+use Rattle.table.specs.declared.Gap.{Gap}
 
 abbrev pub blank : Row
 blank = row 0 0
@@ -136,14 +137,6 @@ keep_same (r ∷ rs) (suc k) t l b e a =
     simp (ne_eqb t r.time (λ f. omega (arith, b 0 (omega arith))), keep_same rs k t (omega arith) (below-tail t r rs k b) e (λ j m n. a (suc j) (omega arith) (omega arith)))
 
 -- ---- the number of rows before t
--- where all before place k are, and the row there is not
-pub before-is : (t : ℕ) (rs : List Row) (k : ℕ) → k ≤ length rs → Below t rs k → (k < length rs → t ≤ time_at rs k) → k ≡ rows_before t rs
-unfolding rows_before
-before-is t [] k l b h = omega arith
-before-is t (r ∷ rs) zero l b h = simp (le-ltb r.time t (h (omega arith)))
-before-is t (r ∷ rs) (suc k) l b h =
-    simp (lt-ltb r.time t (b 0 (omega arith))) (ap suc (before-is t rs k (omega arith) (below-tail t r rs k b) (λ m. h (omega arith))))
-
 record Before (t : ℕ) (rs : List Row) (k : ℕ) : Type 0 where
   within : k ≤ length rs
   below : Below t rs k
@@ -218,11 +211,11 @@ miss rs t k b l h w =
 -- ---- the spot of a timestamp
 module _ (t : ℕ) (rs : List Row) (up : rises cmp_row rs ≡ true) where
   -- the row at place k is not before t, and is its own
-  pub spot-here : (k : ℕ) → k ≡ rows_before t rs → k < length rs → time_at rs k ≡ t → Here k (length rs) (count_at rs k) ≡ spot_of t rs
+  pub spot-here : (k : ℕ) → k ≡ rows_before t rs → k < length rs → time_at rs k ≡ t → here k (length rs) (count_at rs k) ≡ spot_of t rs
   unfolding spot_of
   spot-here k e l f =
       let b : Below t rs k = subst (Below t rs) (sym e) (before-says t rs).below in
-      simp (a-row t rs k l f) (ap (Here k (length rs)) (sym (readers-same rs k t l b f)) ∙ ap (λ (j : ℕ). Here j (length rs) (readers_at t rs)) e)
+      simp (a-row t rs k l f) (ap (here k (length rs)) (sym (readers-same rs k t l b f)) ∙ ap (λ (j : ℕ). here j (length rs) (readers_at t rs)) e)
 
   -- and where it is another's, or no row is there, t has none
   past : (k : ℕ) → k ≡ rows_before t rs → (k < length rs → time_at rs k ≡ t → ⊥) → k < length rs → t < time_at rs k
@@ -234,16 +227,16 @@ module _ (t : ℕ) (rs : List Row) (up : rises cmp_row rs ≡ true) where
   gone : (k : ℕ) → k ≡ rows_before t rs → (k < length rs → time_at rs k ≡ t → ⊥) → Without t rs
   gone k e f = absent rs t k up (subst (Below t rs) (sym e) (before-says t rs).below) (past k e f)
 
-  pub spot-gap : (k : ℕ) → k ≡ rows_before t rs → (k < length rs → time_at rs k ≡ t → ⊥) → Gap k (length rs) ≡ spot_of t rs
+  pub spot-gap : (k : ℕ) → k ≡ rows_before t rs → (k < length rs → time_at rs k ≡ t → ⊥) → gap k (length rs) ≡ spot_of t rs
   unfolding spot_of
-  spot-gap k e f = simp (no_row t rs (gone k e f)) (ap (λ (j : ℕ). Gap j (length rs)) e)
+  spot-gap k e f = simp (no_row t rs (gone k e f)) (ap (λ (j : ℕ). gap j (length rs)) e)
 
   -- what a spot says
-  abbrev pub Spotted : Spot → Type 0
-  Spotted (Here k n c) = (n ≡ length rs) × (c ≡ readers_at t rs) × Hit rs t k
-  Spotted (Gap k n) = (n ≡ length rs) × Miss rs t k
+  abbrev pub Spotted : Result Spot Gap → Type 0
+  Spotted (Ok s) = (s.n ≡ length rs) × (s.count ≡ readers_at t rs) × Hit rs t s.k
+  Spotted (Err g) = (g.n ≡ length rs) × Miss rs t g.k
 
-  pub spotted : (s : Spot) → s ≡ spot_of t rs → Spotted s
+  pub spotted : (s : Result Spot Gap) → s ≡ spot_of t rs → Spotted s
   unfolding spot_of
   spotted s e = subst Spotted (sym e) (go (has_row t rs) refl)
     where
@@ -253,16 +246,16 @@ module _ (t : ℕ) (rs : List Row) (up : rises cmp_row rs ≡ true) where
       B : Before t rs k
       B = before-says t rs
 
-      here : (p : Bool) → eqb (time_at rs k) t ≡ p → (q : Bool) → ltb k (length rs) ≡ q → has_row t rs ≡ true → (k < length rs) × (time_at rs k ≡ t)
-      here true p true q h = (ltb-true k (length rs) q, eqb-true (time_at rs k) t p)
-      here true p false q h = absurd (let z : true ≡ false = sym h ∙ no_row t rs (gone k refl (λ l f. omega (arith, ltb-false k (length rs) q))) in let y : ◌≡◌ {A = ℕ} 0 1 = cc in omega arith)
-      here false p q w h = absurd (let z : true ≡ false = sym h ∙ no_row t rs (gone k refl (λ l f. eqb-false (time_at rs k) t p f)) in let y : ◌≡◌ {A = ℕ} 0 1 = cc in omega arith)
+      at_k : (p : Bool) → eqb (time_at rs k) t ≡ p → (q : Bool) → ltb k (length rs) ≡ q → has_row t rs ≡ true → (k < length rs) × (time_at rs k ≡ t)
+      at_k true p true q h = (ltb-true k (length rs) q, eqb-true (time_at rs k) t p)
+      at_k true p false q h = absurd (let z : true ≡ false = sym h ∙ no_row t rs (gone k refl (λ l f. omega (arith, ltb-false k (length rs) q))) in let y : ◌≡◌ {A = ℕ} 0 1 = cc in omega arith)
+      at_k false p q w h = absurd (let z : true ≡ false = sym h ∙ no_row t rs (gone k refl (λ l f. eqb-false (time_at rs k) t p f)) in let y : ◌≡◌ {A = ℕ} 0 1 = cc in omega arith)
 
       none_here : has_row t rs ≡ false → k < length rs → time_at rs k ≡ t → ⊥
       none_here h l f = let z : true ≡ false = sym (a-row t rs k l f) ∙ h in let y : ◌≡◌ {A = ℕ} 0 1 = cc in omega arith
 
-      go : (p : Bool) → has_row t rs ≡ p → Spotted (cond p (Here (rows_before t rs) (length rs) (readers_at t rs)) (Gap (rows_before t rs) (length rs)))
+      go : (p : Bool) → has_row t rs ≡ p → Spotted (cond p (here (rows_before t rs) (length rs) (readers_at t rs)) (gap (rows_before t rs) (length rs)))
       go true h =
-          let f = here (eqb (time_at rs k) t) refl (ltb k (length rs)) refl h in
+          let f = at_k (eqb (time_at rs k) t) refl (ltb k (length rs)) refl h in
           (refl, refl, hit rs t k up B.below f.0 f.1)
       go false h = (refl, miss rs t k B.below B.within (past k refl (none_here h)) (gone k refl (none_here h)))

@@ -27,7 +27,7 @@ use Rattle.layout.proofs.Streams.{All}
 use Rattle.layout.proofs.LayoutLaws.{OkRow}
 use Rattle.layout.proofs.Sizes.{listed-none, rows-form, rows_long}
 use Rattle.table.specs.Rows.{region_slot, read_in, or_empty, rows_in, lay_rows, Rowed, checked, are_rows}
-use Rattle.table.specs.declared.RowCheck.TheVariants.{Fine}
+use Rattle.std.specs.Prelude.{Ok}
 use Rattle.table.proofs.RowBytes.{RowsFit, rows-laws, region, region-long, lay-none}
 
 -- ---- rows laid in a buffer
@@ -145,7 +145,7 @@ module _ (b : Bytes) (ts : List ℕ) (t : ℕ) (long : 8 + 16 * suc (length ts) 
   pub made-rowed : Rowed buf
   made-rowed = record { reads = ap is_some reads; rise = ap (rises cmp_row) these ∙ (rows_of-sound ts).rising }
 
-  pub made-fine : checked buf t ≡ Fine
+  pub made-fine : checked buf t ≡ Ok tt
   unfolding checked
   made-fine =
       let m = (add-long t (rows_of ts)).1 in
@@ -192,10 +192,6 @@ verdict false (some rs) made f g = go (same_rows rs made) refl
     go false e = refl
 
 module _ (q : Bytes) (y : octets q ≡ true) (made : List Row) (k : RowsFit made) where
-  -- too short for them
-  pub match-short : length q < 8 + 16 * length made → false ≡ are_rows (read_in q) made
-  match-short l = verdict false (read_in q) made (λ z. absurd (let w : ◌≡◌ {A = ℕ} 0 1 = cc in omega arith)) (λ z. absurd (omega (arith, (front_of q y made z).1)))
-
   pub match-front : (r : Bool) → (r ≡ true → take (8 + 16 * length made) q ≡ (listed row_stream).put made) → (take (8 + 16 * length made) q ≡ (listed row_stream).put made → r ≡ true)
       → r ≡ are_rows (read_in q) made
   match-front r f g = verdict r (read_in q) made (λ z. of-front q made k (f z)) (λ z. g (front_of q y made z).0)

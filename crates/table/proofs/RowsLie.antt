@@ -3,7 +3,7 @@
 use Prim.Native.Nat.{ℕ, ◌+◌, ◌≤◌}
 use native.Mathlib.Omega.{arith}
 use mathlib.Core.Path.{◌≡◌, refl, sym, ap, ◌∙◌}
-use mathlib.Core.Bool.{true, cond}
+use mathlib.Core.Bool.{true}
 use mathlib.Core.List.{List}
 use mathlib.Core.Option.{some}
 use lib.ListN.{length}
@@ -25,8 +25,7 @@ use Rattle.layout.specs.Layout.{listed, row_stream, rows_slot}
 use Rattle.layout.proofs.LayoutLaws.{OkRows, rows-width}
 use Rattle.layout.proofs.Sides.{Has}
 use Rattle.layout.proofs.Lies.{Laid}
-use Rattle.table.specs.Rows.{region_slot, read_in, or_empty, rows_in, lay_rows, Rowed, room_in, checked}
-use Rattle.table.specs.declared.RowCheck.TheVariants.{Fine, Full, Most}
+use Rattle.table.specs.Rows.{region_slot, read_in, or_empty, rows_in, lay_rows, Rowed, room_in, judged, checked}
 use Rattle.table.proofs.RowsAnew.{lay-over}
 
 pub slot-reads : (s : Settings) (q : Bytes) → (rows_slot s).read q ≡ read_in q
@@ -54,11 +53,11 @@ module _ (s : Settings) (q : Bytes) (rs : List Row) (h : Has (rows_slot s) q rs)
   part-rowed u = record { reads = ap is_some part-reads; rise = ap (rises cmp_row) part-rows ∙ u }
 
   -- the check, in the paper's words
-  pub part-checked : (t : ℕ) → checked q t ≡ cond (table_fits s.transactions rs t) (cond (ltb (readers_at t rs) most_number) Fine Most) Full
+  pub part-checked : (t : ℕ) → checked q t ≡ judged (table_fits s.transactions rs t) (ltb (readers_at t rs) most_number)
   unfolding checked
   part-checked t =
-      ap (λ (u : List Row). cond (table_fits (room_in q) u t) (cond (ltb (readers_at t u) most_number) Fine Most) Full) part-rows
-      ∙ ap (λ (n : ℕ). cond (table_fits n rs t) (cond (ltb (readers_at t rs) most_number) Fine Most) Full) part_room
+      ap (λ (u : List Row). judged (table_fits (room_in q) u t) (ltb (readers_at t u) most_number)) part-rows
+      ∙ ap (λ (n : ℕ). judged (table_fits n rs t) (ltb (readers_at t rs) most_number)) part_room
 
   -- rows made of these are written as the layout writes them
   pub part-laid : (f : List Row → List Row) → lay_rows (f (rows_in q)) q ≡ (rows_slot s).write (f rs) q

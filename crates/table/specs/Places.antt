@@ -1,6 +1,6 @@
 -- The transactions' places by their first 16 bytes: the handle, 0 where a place is free, and the read number. The rest of a place may be anything.
 -- Assumes nothing.
-use Rattle.std.specs.Prelude.{ℕ, zero, suc, ◌+◌, ◌*◌, cond, not, List, [], ◌∷◌, eqb}
+use Rattle.std.specs.Prelude.{ℕ, zero, suc, ◌+◌, cond, not, List, [], ◌∷◌, eqb, Option as Found, Some, None}
 use Rattle.std.proofs.Math.Option.{Option, none, some}
 use Rattle.paper.specs.Lists.{keep}
 use Rattle.paper.specs.Keys.{Bytes}
@@ -8,8 +8,6 @@ use Rattle.paper.specs.Image.{number_from}
 use Rattle.raw.specs.Bytes.{part}
 use Rattle.layout.specs.Codec.{map_option}
 use Rattle.layout.specs.Offsets.{place_read}
-use Rattle.table.specs.declared.Found.{Found}
-use Rattle.table.specs.declared.Found.TheVariants.{At, Nothing}
 
 -- what stands in front of a place, and the number behind it
 abbrev pub tag_at : Bytes → ℕ → ℕ
@@ -38,9 +36,9 @@ unfoldable pub first_with : ℕ → List ℕ → Option ℕ
 first_with tag [] = none
 first_with tag (t ∷ ts) = let further = map_option suc (first_with tag ts) in cond (eqb t tag) (some 0) further
 
-abbrev pub placed : ℕ → ℕ → Option ℕ → Found
-placed at stride none = Nothing
-placed at stride (some i) = At i (at + i * stride)
+abbrev pub placed : Option ℕ → Found ℕ
+placed none = None
+placed (some i) = Some i
 
-unfoldable pub found_in : Bytes → ℕ → ℕ → ℕ → ℕ → Found
-found_in b at stride n tag = placed at stride (first_with tag (tags_in b at stride n))
+unfoldable pub found_in : Bytes → ℕ → ℕ → ℕ → ℕ → Found ℕ
+found_in b at stride n tag = placed (first_with tag (tags_in b at stride n))

@@ -1,6 +1,6 @@
 -- The reader rows of a state, in their region: how they read, where a timestamp stands among them, and whether a reader may be added.
 -- Assumes nothing.
-use Rattle.std.specs.Prelude.{ℕ, suc, ◌+◌, ◌*◌, ◌-◌, ◌/◌, ◌≤◌, ◌≡◌, Bool, true, false, cond, List, [], ◌∷◌, length, ltb, eqb}
+use Rattle.std.specs.Prelude.{ℕ, suc, ◌+◌, ◌*◌, ◌-◌, ◌/◌, ◌≤◌, ◌≡◌, Bool, true, false, cond, List, [], ◌∷◌, length, ltb, eqb, Result, Ok, Err}
 use Rattle.std.proofs.Math.Option.{Option, none, some}
 use Rattle.paper.specs.Lists.{any, is_some, rises}
 use Rattle.paper.specs.Keys.{Bytes}
@@ -11,9 +11,9 @@ use Rattle.paper.specs.Sound.{same_rows}
 use Rattle.layout.specs.Codec.{Slot, room}
 use Rattle.layout.specs.Layout.{listed, row_stream}
 use Rattle.table.specs.declared.Spot.{Spot}
-use Rattle.table.specs.declared.Spot.TheVariants.{Here, Gap}
-use Rattle.table.specs.declared.RowCheck.{RowCheck}
-use Rattle.table.specs.declared.RowCheck.TheVariants.{Fine, Full, Most}
+use Rattle.table.specs.declared.Gap.{Gap}
+use Rattle.table.specs.declared.RowRefusal.{RowRefusal}
+use Rattle.table.specs.declared.RowRefusal.TheVariants.{Full, Most}
 
 -- ---- a region is room for rows in all of its bytes, as the rows' part of a state is
 unfoldable pub region_slot : Bytes → Slot (List Row)
@@ -59,13 +59,24 @@ rows_before t (r ∷ rs) = let further = suc (rows_before t rs) in cond (ltb r.t
 unfoldable pub has_row : ℕ → List Row → Bool
 has_row t rs = any (λ r. eqb t r.time) rs
 
+-- a row at place k of n, with c readers; and no row, which would be at place k
+abbrev pub here : ℕ → ℕ → ℕ → Result Spot Gap
+here k n c = Ok (record { k = k; n = n; count = c })
+
+abbrev pub gap : ℕ → ℕ → Result Spot Gap
+gap k n = Err (record { k = k; n = n })
+
 -- the place of its row, or the place where its row would be
-unfoldable pub spot_of : ℕ → List Row → Spot
-spot_of t rs = cond (has_row t rs) (Here (rows_before t rs) (length rs) (readers_at t rs)) (Gap (rows_before t rs) (length rs))
+unfoldable pub spot_of : ℕ → List Row → Result Spot Gap
+spot_of t rs = cond (has_row t rs) (here (rows_before t rs) (length rs) (readers_at t rs)) (gap (rows_before t rs) (length rs))
 
 -- ---- may a reader be added at t: 'a reader table full for a new timestamp' is 5, 'a reader's count there' (at 2^64-1) is 7
-unfoldable pub checked : Bytes → ℕ → RowCheck
-checked b t = cond (table_fits (room_in b) (rows_in b) t) (cond (ltb (readers_at t (rows_in b)) most_number) Fine Most) Full
+-- what is found out of room and count
+abbrev pub judged : Bool → Bool → Result (Unit {0}) RowRefusal
+judged room below = cond room (cond below (Ok tt) (Err Most)) (Err Full)
+
+unfoldable pub checked : Bytes → ℕ → Result (Unit {0}) RowRefusal
+checked b t = judged (table_fits (room_in b) (rows_in b) t) (ltb (readers_at t (rows_in b)) most_number)
 
 -- ---- 'reader rows rise strictly and count exactly the transactions': the region reads as these rows
 abbrev pub are_rows : Option (List Row) → List Row → Bool

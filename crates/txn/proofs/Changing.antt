@@ -2,12 +2,12 @@
 -- Assumes nothing.
 use native.Mathlib.Omega.{arith}
 use mathlib.Core.Path.{◌≡◌, refl, sym, ap, ap₂, ◌∙◌, subst}
-use mathlib.Core.Bool.{Bool, true, false, cond}
+use mathlib.Core.Bool.{Bool, true, false, not, cond, ◌||◌}
 use mathlib.Core.Option.{some}
 use mathlib.Core.List.{List, [], ◌∷◌, append-nil}
 use Prim.Native.Nat.{ℕ, suc, ◌+◌, ◌*◌, ◌/◌, ◌^◌, ◌≤◌, ◌<◌, compare, Ordering}
-use borrow.Author.Tests.{le-leb, lt-leb, leb-true}
-use lib.Dec.{leb, lit<}
+use borrow.Author.Tests.{le-leb, lt-leb, leb-true, ltb-true, ltb-false}
+use lib.Dec.{leb, ltb, lit<}
 use lib.ListN.{length, take, drop}
 use Rattle.paper.specs.Lists.{total, place, insert, rises, among}
 use Rattle.paper.specs.Keys.{Bytes, Pair, octets, cmp_pair}
@@ -70,6 +70,15 @@ module _ (count hash : ℕ) (set : List ℕ) (h : length set ≤ count) where
         go : (b : Bool) → among hash set ≡ b → among hash set ≡ leb (length (insert compare hash set)) count
         go true e = e ∙ sym (le-leb (length (insert compare hash set)) count (omega (arith, fits_by true e)))
         go false e = e ∙ sym (lt-leb (length (insert compare hash set)) count (omega (arith, fits_by false e)))
+
+    -- each test, one after the other
+    pub fits_verdict : (b : Bool) (n : ℕ) → n ≡ length set → set_fits count (set_add b hash set) ≡ (not b || ltb n count) || among hash set
+    fits_verdict false n e = sym fits-other
+    fits_verdict true n e = go (ltb n count) refl
+      where
+        go : (b : Bool) → ltb n count ≡ b → set_fits count (set_add true hash set) ≡ b || among hash set
+        go true f = sym (fits-room (let l = ltb-true n count f in omega arith))
+        go false f = sym (fits-full (let l = ltb-false n count f in omega arith))
 
 -- ---- what is written in front changes nothing behind it
 pub set-behind : (q : Bytes) (a : ℕ) (x : Bytes) (at : ℕ) → a ≤ length q → a + length x ≤ at

@@ -2,7 +2,7 @@
 -- Assumes nothing.
 use native.Mathlib.Omega.{arith}
 use mathlib.Core.Path.{◌≡◌, refl, sym, ap, ap₂, ◌∙◌, subst}
-use mathlib.Core.Bool.{Bool, true, false, cond, ◌&&◌, false≢true}
+use mathlib.Core.Bool.{Bool, true, false, not, cond, ◌&&◌, ◌||◌, false≢true}
 use mathlib.Core.Option.{Option, none, some}
 use mathlib.Core.List.{List}
 use Prim.Native.Nat.{ℕ, zero, suc, ◌+◌, ◌*◌, ◌-◌, ◌/◌, ◌%◌, ◌≤◌, ◌<◌, compare}
@@ -15,7 +15,7 @@ use Rattle.paper.specs.Image.{after}
 use Rattle.paper.specs.Settings.{Settings}
 use Rattle.paper.specs.Store.{own_size}
 use Rattle.paper.specs.Sound.{own_hashes, same_numbers, sound_pair, sound_set, sound_writes, txn_rules, sound_txn}
-use Rattle.paper.proofs.Bools.{and_left, and_right}
+use Rattle.paper.proofs.Bools.{and_left, and_right, and_intro}
 use Rattle.raw.specs.Bytes.{part}
 use Rattle.raw.proofs.Parts.{length_part}
 use Rattle.raw.proofs.Octets.{octets-part}
@@ -28,14 +28,14 @@ use Rattle.layout.proofs.Sizes.{overlay-form}
 use Rattle.layout.proofs.Reading.{place-read-as}
 use Rattle.overlay.specs.Overlay.{orderly, is_overlay, overlay_in}
 use Rattle.overlay.specs.Entries.{span}
-use Rattle.overlay.proofs.Fields.{number-there}
 use Rattle.overlay.proofs.Pairs.{overlay-is}
+use Rattle.sets.specs.Sets.{set_hashes, hashes_in}
 use Rattle.sets.proofs.Hashes.{length-hashes, set-in}
 use Rattle.sets.proofs.Risings.{none-rise}
 use Rattle.txn.specs.declared.Rooms.{Rooms}
-use Rattle.txn.specs.Place.{settings_of, stride_of, reads_at, writes_at, used_at, own_start, own_end, own_of, set_count, set_of}
+use Rattle.txn.specs.Place.{settings_of, stride_of, reads_at, writes_at, used_at, own_start, own_end, own_of, own_held, set_count, set_of, set_held}
 use Rattle.txn.specs.Checks.{passes, place_passes, place_sound, head_sound, own_sound, set_sound, parts_sound}
-use Rattle.txn.proofs.Reading.{within, room-read, set-read, set-read-odd, set-read-some}
+use Rattle.txn.proofs.Reading.{number-there, hashes-lent, within, room-read, set-read, set-read-odd, set-read-some}
 
 -- ---- tests in a row
 and_assoc : (a b c : Bool) → (a && b) && c ≡ a && (b && c)
@@ -142,17 +142,13 @@ module _ (q : Bytes) (l : 24 ≤ length q) where
         go true e = head-passes (some (used_at q place_read, false)) (head-closed (eqb-true (used_at q place_mark) 0 e))
         go false e = head-passes (some (used_at q place_read, true)) (head-open (one (used_at q place_mark) h (eqb-false (used_at q place_mark) 0 e)))
 
-    -- each test on the way
-    pub head-low : used_at q place_mark ≤ 1 → handle < 1 → false ≡ head_sound handle counter clock q
-    head-low h z = sym (head-good h ∙ ap (λ (b : Bool). b && (leb handle counter && leb (used_at q place_read) clock)) (lt-leb 1 handle z))
-
-    pub head-high : used_at q place_mark ≤ 1 → counter < handle → false ≡ head_sound handle counter clock q
-    head-high h z =
-        sym (head-good h ∙ ap (λ (b : Bool). leb 1 handle && (b && leb (used_at q place_read) clock)) (lt-leb handle counter z) ∙ and-false (leb 1 handle))
-
-    pub head-last : used_at q place_mark ≤ 1 → 1 ≤ handle → handle ≤ counter → leb (used_at q place_read) clock ≡ head_sound handle counter clock q
-    head-last h a z =
-        sym (head-good h ∙ ap₂ (λ (b c : Bool). b && (c && leb (used_at q place_read) clock)) (le-leb 1 handle a) (le-leb handle counter z))
+    -- each test, one after the other
+    pub head_is : head_sound handle counter clock q ≡ leb (used_at q place_mark) 1 && (leb 1 handle && (leb handle counter && leb (used_at q place_read) clock))
+    head_is = go (leb (used_at q place_mark) 1) refl
+      where
+        go : (b : Bool) → leb (used_at q place_mark) 1 ≡ b → head_sound handle counter clock q ≡ leb (used_at q place_mark) 1 && (leb 1 handle && (leb handle counter && leb (used_at q place_read) clock))
+        go true e = head-good (leb-true (used_at q place_mark) 1 e) ∙ sym (ap (λ (b : Bool). b && (leb 1 handle && (leb handle counter && leb (used_at q place_read) clock))) e)
+        go false e = sym (head-bad (leb-false (used_at q place_mark) 1 e)) ∙ sym (ap (λ (b : Bool). b && (leb 1 handle && (leb handle counter && leb (used_at q place_read) clock))) e)
 
     pub head-mark : head_sound handle counter clock q ≡ true → used_at q place_mark ≤ 1
     head-mark h = go (leb (used_at q place_mark) 1) refl
@@ -202,6 +198,14 @@ module _ (r : Rooms) (q : Bytes) (y : octets q ≡ true) (l : length q ≡ strid
     -- a sound overlay is read
     pub own-there : overlay_in q own_start (own_end q) ≡ true → (overlay_slot (settings_of false r)).read (part q place_overlay (width_overlay (settings_of false r))) ≡ some (own_of q)
     own-there e = own_read ∙ in-room ∙ ap (λ (x : Bytes). (many pair_stream).parse x) as-span ∙ (overlay-is (part q own_start (own_end q - own_start)) e).read
+
+  -- each test, one after the other
+  pub own_verdict : (n : ℕ) → n ≡ used_at q place_overlay → own_sound (settings_of false r) q ≡ leb n r.own && is_overlay (part q own_start (own_start + n - own_start))
+  own_verdict n e = go (leb (used_at q place_overlay) r.own) refl ∙ ap (λ (a : ℕ). leb a r.own && is_overlay (part q own_start (own_start + a - own_start))) (sym e)
+    where
+      go : (b : Bool) → leb (used_at q place_overlay) r.own ≡ b → own_sound (settings_of false r) q ≡ leb (used_at q place_overlay) r.own && overlay_in q own_start (own_end q)
+      go true f = sym (own-small (leb-true (used_at q place_overlay) r.own f)) ∙ sym (ap (λ (b : Bool). b && overlay_in q own_start (own_end q)) f)
+      go false f = sym (own-big (leb-false (used_at q place_overlay) r.own f)) ∙ sym (ap (λ (b : Bool). b && overlay_in q own_start (own_end q)) f)
 
   pub own-within : own_sound (settings_of false r) q ≡ true → (used_at q place_overlay ≤ r.own) × (overlay_in q own_start (own_end q) ≡ true)
   own-within h = go (leb (used_at q place_overlay) r.own) refl
@@ -258,6 +262,42 @@ module _ (q : Bytes) (y : octets q ≡ true) (at count : ℕ) (l : at + (8 + 4 *
             let z = eqb-false (used_at q at) 0 f in
             f ∙ sym (as_is ∙ ap (λ (b : Bool). rises compare (set_of q at) && b) (lt-leb (set_count q at) 0 (more (used_at q at) e z)) ∙ and-false (rises compare (set_of q at)))
 
+  -- each test, one after the other
+  pub set_verdict : (n : ℕ) → n ≡ used_at q at → set_sound ser count at q ≡ leb n (4 * count) && (eqb (n % 4) 0 && ((ser || eqb n 0) && rises compare (set_hashes (part q (at + 8) (at + 8 + n - (at + 8))))))
+  set_verdict n e = room_test (leb n (4 * count)) refl
+    where
+      hashes : n ≤ 4 * count → set_hashes (part q (at + 8) (at + 8 + n - (at + 8))) ≡ set_of q at
+      hashes h = hashes-lent q (at + 8) n (omega arith) ∙ ap (λ (m : ℕ). hashes_in q (at + 8) (m / 4)) e
+
+      last : n ≤ 4 * count → n % 4 ≡ 0 → (b : Bool) → ser ≡ b → set_sound ser count at q ≡ (ser || eqb n 0) && rises compare (set_hashes (part q (at + 8) (at + 8 + n - (at + 8))))
+      last h f true g =
+          sym (ap (λ (b : Bool). (b || eqb n 0) && rises compare (set_hashes (part q (at + 8) (at + 8 + n - (at + 8))))) g ∙ ap (rises compare) (hashes h) ∙ set-serial (omega arith) (rw (← e) f) g)
+      last h f false g =
+          sym (ap (λ (b : Bool). (b || eqb n 0) && rises compare (set_hashes (part q (at + 8) (at + 8 + n - (at + 8))))) g ∙ empty_test (eqb n 0) refl ∙ ap (λ (m : ℕ). eqb m 0) e ∙ set_other (omega arith) (rw (← e) f) g)
+        where
+          empty_test : (b : Bool) → eqb n 0 ≡ b → eqb n 0 && rises compare (set_hashes (part q (at + 8) (at + 8 + n - (at + 8)))) ≡ eqb n 0
+          empty_test true z =
+              let m : n ≡ 0 = eqb-true n 0 z in
+              ap (λ (b : Bool). b && rises compare (set_hashes (part q (at + 8) (at + 8 + n - (at + 8))))) z
+              ∙ ap (rises compare) (hashes h) ∙ sym (none-rise q (at + 8) (set_count q at) (omega arith)) ∙ sym z
+          empty_test false z = ap (λ (b : Bool). b && rises compare (set_hashes (part q (at + 8) (at + 8 + n - (at + 8))))) z ∙ sym z
+
+      even_test : n ≤ 4 * count → (b : Bool) → eqb (n % 4) 0 ≡ b → set_sound ser count at q ≡ eqb (n % 4) 0 && ((ser || eqb n 0) && rises compare (set_hashes (part q (at + 8) (at + 8 + n - (at + 8)))))
+      even_test h true f =
+          last h (eqb-true (n % 4) 0 f) ser refl ∙ sym (ap (λ (b : Bool). b && ((ser || eqb n 0) && rises compare (set_hashes (part q (at + 8) (at + 8 + n - (at + 8)))))) f)
+      even_test h false f =
+          sym (set-uneven (omega arith) (λ z. eqb-false (n % 4) 0 f (ap (λ (m : ℕ). m % 4) e ∙ z)))
+          ∙ sym (ap (λ (b : Bool). b && ((ser || eqb n 0) && rises compare (set_hashes (part q (at + 8) (at + 8 + n - (at + 8)))))) f)
+
+      room_test : (b : Bool) → leb n (4 * count) ≡ b
+          → set_sound ser count at q ≡ leb n (4 * count) && (eqb (n % 4) 0 && ((ser || eqb n 0) && rises compare (set_hashes (part q (at + 8) (at + 8 + n - (at + 8))))))
+      room_test true f =
+          even_test (leb-true n (4 * count) f) (eqb (n % 4) 0) refl
+          ∙ sym (ap (λ (b : Bool). b && (eqb (n % 4) 0 && ((ser || eqb n 0) && rises compare (set_hashes (part q (at + 8) (at + 8 + n - (at + 8))))))) f)
+      room_test false f =
+          sym (set-big (let l = leb-false n (4 * count) f in omega arith))
+          ∙ sym (ap (λ (b : Bool). b && (eqb (n % 4) 0 && ((ser || eqb n 0) && rises compare (set_hashes (part q (at + 8) (at + 8 + n - (at + 8))))))) f)
+
   -- a sound set is read, and rises
   pub set-within : set_sound ser count at q ≡ true → (used_at q at ≤ 4 * count) × ((room (8 + 4 * count) hashes_stream).read (part q at (8 + 4 * count)) ≡ some (set_of q at)) × (rises compare (set_of q at) ≡ true)
   set-within h = first (leb (used_at q at) (4 * count)) refl
@@ -273,29 +313,6 @@ module _ (q : Bytes) (y : octets q ≡ true) (at count : ℕ) (l : at + (8 + 4 *
           → (used_at q at ≤ 4 * count) × ((room (8 + 4 * count) hashes_stream).read (part q at (8 + 4 * count)) ≡ some (set_of q at)) × (rises compare (set_of q at) ≡ true)
       first true f = second (leb-true (used_at q at) (4 * count) f) (eqb (used_at q at % 4) 0) refl
       first false f = absurd (false≢true (set-big (leb-false (used_at q at) (4 * count) f) ∙ h))
-
--- ---- the parts one by one
-module _ (r : Rooms) (ser : Bool) (handle counter clock : ℕ) (q : Bytes) where
-  pub no-head : head_sound handle counter clock q ≡ false → false ≡ parts_sound (settings_of ser r) handle counter clock q
-  unfolding parts_sound
-  no-head e = sym (ap (λ (b : Bool). b && (own_sound (settings_of ser r) q && (set_sound ser r.reads (reads_at r) q && set_sound ser r.writes (writes_at r) q))) e)
-
-  pub no_own : head_sound handle counter clock q ≡ true → own_sound (settings_of false r) q ≡ false → false ≡ parts_sound (settings_of ser r) handle counter clock q
-  unfolding parts_sound own_sound
-  no_own h e = sym (ap₂ (λ (a b : Bool). a && (b && (set_sound ser r.reads (reads_at r) q && set_sound ser r.writes (writes_at r) q))) h e)
-
-  module _ (h : head_sound handle counter clock q ≡ true) (o : own_sound (settings_of false r) q ≡ true) where
-    pub no_reads : set_sound ser r.reads (reads_at r) q ≡ false → false ≡ parts_sound (settings_of ser r) handle counter clock q
-    unfolding parts_sound own_sound
-    no_reads e =
-        sym (ap₂ (λ (a b : Bool). a && (b && (set_sound ser r.reads (reads_at r) q && set_sound ser r.writes (writes_at r) q))) h o
-        ∙ ap (λ (b : Bool). b && set_sound ser r.writes (writes_at r) q) e)
-
-    pub last-writes : set_sound ser r.reads (reads_at r) q ≡ true → set_sound ser r.writes (writes_at r) q ≡ parts_sound (settings_of ser r) handle counter clock q
-    unfolding parts_sound own_sound
-    last-writes e =
-        sym (ap₂ (λ (a b : Bool). a && (b && (set_sound ser r.reads (reads_at r) q && set_sound ser r.writes (writes_at r) q))) h o
-        ∙ ap (λ (b : Bool). b && set_sound ser r.writes (writes_at r) q) e)
 
 -- ---- the place
 module _ (r : Rooms) (ser : Bool) (counter clock : ℕ) (q : Bytes) (y : octets q ≡ true) (l : length q ≡ stride_of r) where
@@ -372,3 +389,37 @@ module _ (r : Rooms) (ser : Bool) (counter clock : ℕ) (q : Bytes) (y : octets 
           ∙ ap (λ (t : Option (List Pair)). matches (settings_of ser r) counter clock (used_at q 0) (some (used_at q place_read, true)) t writes) (own-there r q y l o.0 o.1)
           ∙ ap (λ (t : Option (List ℕ)). matches (settings_of ser r) counter clock (used_at q 0) (some (used_at q place_read, true)) (some (own_of q)) t) w.1
           ∙ ap (λ (b : Bool). cond (b && true) (same_numbers (set_of q (writes_at r)) (own_hashes (own_of q))) true) s)
+
+  -- the own writes and the write set of a place whose parts are sound can be looked at
+  pub match-ready : (handle : ℕ) → handle ≡ used_at q 0 → parts_sound (settings_of ser r) handle counter clock q ≡ true
+      → (own_start ≤ length q) × (own_held q ≡ true) × (writes_at r + 8 ≤ length q) × (set_held q (writes_at r) ≡ true) × (used_at q (writes_at r) ≤ 4 * r.writes)
+  unfolding own_held set_held parts_sound own_sound
+  match-ready handle e p =
+      let o = own-within r q y l (and_left (own_sound (settings_of ser r) q) _ (and_right (head_sound handle counter clock q) _ p)) in
+      let w = set-within q y (writes_at r) r.writes (omega arith) ser (and_right (set_sound ser r.reads (reads_at r) q) _ (and_right (own_sound (settings_of ser r) q) _ (and_right (head_sound handle counter clock q) _ p))) in (
+        omega arith,
+        and_intro (le-leb (own_end q) (length q) (omega (arith, o.0))) o.1,
+        omega arith,
+        and_intro (le-leb (writes_at r + 8 + used_at q (writes_at r)) (length q) (omega (arith, w.0))) w.2,
+        w.0,
+      )
+
+  -- each test, one after the other
+  pub place_verdict : place_sound (settings_of ser r) counter clock q
+      ≡ eqb (used_at q 0) 0
+      || (parts_sound (settings_of ser r) (used_at q 0) counter clock q && ((not ser || eqb (used_at q place_mark) 0) || same_numbers (set_of q (writes_at r)) (own_hashes (own_of q))))
+  place_verdict = free_test (eqb (used_at q 0) 0) refl
+    where
+      open_test : (z : used_at q 0 ≡ 0 → ⊥) → parts_sound (settings_of ser r) (used_at q 0) counter clock q ≡ true → (b c : Bool) → ser ≡ b → eqb (used_at q place_mark) 0 ≡ c
+          → place_sound (settings_of ser r) counter clock q ≡ (not b || c) || same_numbers (set_of q (writes_at r)) (own_hashes (own_of q))
+      open_test z p false c e f = sym (other-sound z p e)
+      open_test z p true true e f = sym (closed-sound z p (eqb-true (used_at q place_mark) 0 f))
+      open_test z p true false e f = sym (open-sound z p e (eqb-false (used_at q place_mark) 0 f))
+
+      parts_test : (z : used_at q 0 ≡ 0 → ⊥) → (b : Bool) → parts_sound (settings_of ser r) (used_at q 0) counter clock q ≡ b → place_sound (settings_of ser r) counter clock q ≡ b && ((not ser || eqb (used_at q place_mark) 0) || same_numbers (set_of q (writes_at r)) (own_hashes (own_of q)))
+      parts_test z true p = open_test z p ser (eqb (used_at q place_mark) 0) refl refl
+      parts_test z false p = sym (parts-fail z p)
+
+      free_test : (b : Bool) → eqb (used_at q 0) 0 ≡ b → place_sound (settings_of ser r) counter clock q ≡ b || (parts_sound (settings_of ser r) (used_at q 0) counter clock q && ((not ser || eqb (used_at q place_mark) 0) || same_numbers (set_of q (writes_at r)) (own_hashes (own_of q))))
+      free_test true e = sym (free-sound (eqb-true (used_at q 0) 0 e))
+      free_test false e = parts_test (eqb-false (used_at q 0) 0 e) (parts_sound (settings_of ser r) (used_at q 0) counter clock q) refl

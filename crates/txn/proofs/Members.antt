@@ -15,7 +15,7 @@ use Rattle.paper.proofs.Bools.{is_same-eq}
 use Rattle.paper.proofs.Order.{compare-order, compare-lt, compare-eq, compare-turn, turned}
 use Rattle.paper.proofs.KeyOrder.{key-eq, key-order}
 use Rattle.paper.proofs.Rising.{rises-of}
-use Rattle.sets.specs.declared.Found.TheVariants.{At}
+use Rattle.std.specs.Prelude.{Ok}
 use Rattle.sets.specs.Sets.{rank, found, found_in}
 use Rattle.sets.proofs.Risings.{rises-head, rises-tail, none_below}
 
@@ -108,11 +108,11 @@ at-rank h (y ∷ ys) r e = go (λ f. at-rank h ys (rises-of compare compare-orde
         (omega (arith, z, k.0), ap (λ (i : ℕ). get_or (y ∷ ys) i 0) z ∙ k.1)
 
 -- a search that found the number tells its place
-pub found-place : (h i : ℕ) (set : List ℕ) → At i ≡ found_in h set → (among h set ≡ true) × (i ≡ rank h set)
+pub found-place : (h i : ℕ) (set : List ℕ) → Ok i ≡ found_in h set → (among h set ≡ true) × (i ≡ rank h set)
 unfolding found_in
 found-place h i set = go (among h set) refl
   where
-    go : (b : Bool) → among h set ≡ b → At i ≡ found b (rank h set) → (among h set ≡ true) × (i ≡ rank h set)
+    go : (b : Bool) → among h set ≡ b → Ok i ≡ found b (rank h set) → (among h set ≡ true) × (i ≡ rank h set)
     go true e f = (e, cc)
     go false e f = absurd (let z : ◌≡◌ {A = ℕ} 0 1 = cc in omega arith)
 

@@ -5,25 +5,45 @@ use mathlib.Core.Path.{◌≡◌, refl, sym, ap, ◌∙◌}
 use mathlib.Core.Bool.{Bool, true, false, cond}
 use mathlib.Core.Option.{Option, none, some, some-injective}
 use mathlib.Core.List.{List}
-use Prim.Native.Nat.{ℕ, ◌+◌, ◌*◌, ◌-◌, ◌%◌, ◌≤◌, compare}
-use borrow.Author.Tests.{leb-true, leb-false, le-leb, eqb-true, eqb-false}
+use Prim.Native.Nat.{ℕ, ◌+◌, ◌*◌, ◌-◌, ◌/◌, ◌%◌, ◌≤◌, ◌<◌, compare}
+use borrow.Author.Tests.{leb-true, leb-false, le-leb, lt-leb, eqb-true, eqb-false}
 use lib.Dec.{leb, eqb}
-use lib.ListN.{length, drop}
+use lib.ListN.{length, drop, length-take}
 use Rattle.paper.specs.Lists.{rises}
 use Rattle.paper.specs.Keys.{Bytes}
-use Rattle.paper.specs.Image.{big_endian, number, bytes}
+use Rattle.paper.specs.Image.{big_endian, number_from, number, bytes}
 use Rattle.paper.proofs.ImageLaws.{length-big_endian}
 use Rattle.paper.proofs.Bools.{and_intro}
 use Rattle.raw.specs.Bytes.{part, over}
-use Rattle.raw.proofs.Parts.{length_part}
+use Rattle.raw.proofs.Parts.{length_part, take_part, drop-part}
 use Rattle.raw.proofs.Over.{over-before}
 use Rattle.layout.specs.Codec.{Whole, num, sized, many, room, first_of, lift}
 use Rattle.layout.specs.Layout.{hashes_stream}
 use Rattle.overlay.specs.Entries.{span}
-use Rattle.overlay.proofs.Fields.{number-there, bytes-there, bytes-short}
+use Rattle.sets.specs.Sets.{hashes_of, set_hashes, hashes_in}
 use Rattle.sets.proofs.Hashes.{length-hashes, parse-hashes, parse-odd, front-hashes}
 use Rattle.txn.specs.Place.{used_at, set_count, set_of, set_held}
 
+-- ---- bytes and numbers off the front of a span
+module _ (s : Bytes) (at end w : ℕ) where
+  bytes-there : at + w ≤ end → end ≤ length s → bytes w (span s at end) ≡ some (part s at w, span s (at + w) end)
+  unfolding bytes
+  bytes-there h k =
+      let n : end - at - w ≡ end - (at + w) = omega arith in
+      let f : leb w (length (span s at end)) ≡ true = le-leb w (length (span s at end)) (rw (length_part s at (end - at) (omega arith)) (omega arith)) in
+      simp (f, take_part s at (end - at) w (omega arith), drop-part s at (end - at) w, n)
+
+  bytes-short : end - at < w → bytes w (span s at end) ≡ none
+  unfolding bytes
+  bytes-short h =
+      let f : leb w (length (span s at end)) ≡ _ = lt-leb w (length (span s at end)) (rw length-take (omega arith)) in
+      simp f
+
+  pub number-there : at + w ≤ end → end ≤ length s → number w (span s at end) ≡ some (number_from 0 (part s at w), span s (at + w) end)
+  unfolding number
+  number-there h k = rw (bytes-there h k)
+
+-- ---- a list in its room
 -- what was read, where the number in front is within the room
 abbrev pub within : {A : Type 0} → ℕ → ℕ → Option A → Option A
 within n m o = cond (leb n m) o none
@@ -73,6 +93,13 @@ listed-laid W a q at n h e =
     ∙ over-before q (at + 8) (W.form a) h at (big_endian 8 (length (W.form a))) (omega (arith, length-big_endian 8 (length (W.form a))))
 
 -- ---- sets
+-- the hashes of a set that is lent from where it starts to where it ends
+pub hashes-lent : (q : Bytes) (start n : ℕ) → start + n ≤ length q → set_hashes (part q start (start + n - start)) ≡ hashes_in q start (n / 4)
+hashes-lent q start n h =
+    let m : ℕ = start + n - start in
+    let k : m ≡ n = omega arith in
+    ap (λ (j : ℕ). hashes_of (j / 4) (part q start m)) (length_part q start m (omega arith)) ∙ front-hashes (m / 4) (drop start q) m (omega arith) ∙ ap (λ (j : ℕ). hashes_in q start (j / 4)) k
+
 -- a set that was read
 pub record SetAt (q : Bytes) (at m : ℕ) (hs : List ℕ) : Type 0 where
   pub used : used_at q at ≡ 4 * length hs

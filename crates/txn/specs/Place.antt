@@ -15,6 +15,7 @@ use Rattle.layout.specs.Offsets.{place_overlay, place_reads, place_writes, strid
 use Rattle.layout.specs.Layout.{place_slot}
 use Rattle.overlay.specs.Overlay.{own_in, overlay_in}
 use Rattle.sets.specs.Sets.{hashes_in}
+use Rattle.settings.specs.declared.Shape.{Shape}
 use Rattle.txn.specs.declared.Rooms.{Rooms}
 
 -- the settings that a place goes by: the mode, and the room of its overlay and sets
@@ -34,7 +35,11 @@ settings_of serializable r =
 
 -- and the rooms that a store's settings grant
 abbrev pub rooms_of : Settings → Rooms
-rooms_of s = record { own = s.overlay_bytes; reads = s.read_hashes; writes = s.write_hashes }
+rooms_of s = record { own = s.overlay_bytes; reads = s.read_hashes; writes = s.write_hashes; serializable = s.serializable }
+
+-- the same of a state, by its shape
+abbrev pub rooms_in : Shape → Rooms
+rooms_in z = record { own = z.own; reads = z.reads; writes = z.writes; serializable = z.serializable }
 
 -- how a place is read and written, and how long it is: the mode has no part in either
 abbrev pub place_of : Rooms → Slot (Option Txn)

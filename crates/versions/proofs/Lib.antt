@@ -1,5 +1,4 @@
 pub mod Inserting
-pub mod Entries
 pub mod Counting
 pub mod Splitting
 pub mod Moving

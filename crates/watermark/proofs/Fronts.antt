@@ -28,13 +28,13 @@ up_to-same f g zero h = refl
 up_to-same f g (suc n) h = ap₂ {C = List _} (λ p x. p ++ (x ∷ [])) (up_to-same f g n (λ i l. h i (omega arith))) (h n (omega arith))
 
 -- ---- fronts
-times-front : (n : ℕ) (times counts : List ℕ) → n ≤ room_in times counts → map (λ r. r.time) (rows_in n times counts) ≡ take n times
+pub times-front : (n : ℕ) (times counts : List ℕ) → n ≤ room_in times counts → map (λ r. r.time) (rows_in n times counts) ≡ take n times
 times-front n times counts h = map-up_to (λ r. r.time) (λ i. row (get_or times i 0) (get_or counts i 0)) n ∙ up_to-take times 0 n (omega arith)
 
 counts-front : (n : ℕ) (times counts : List ℕ) → n ≤ room_in times counts → map (λ r. r.count) (rows_in n times counts) ≡ take n counts
 counts-front n times counts h = map-up_to (λ r. r.count) (λ i. row (get_or times i 0) (get_or counts i 0)) n ∙ up_to-take counts 0 n (omega arith)
 
-rows-front : (n : ℕ) (rows : List Lent.Row) → n ≤ length rows → map as_lent (rows_of n rows) ≡ take n rows
+pub rows-front : (n : ℕ) (rows : List Lent.Row) → n ≤ length rows → map as_lent (rows_of n rows) ≡ take n rows
 rows-front n rows h = map-up_to as_lent (λ i. as_row (get_or rows i no_row)) n ∙ up_to-take rows no_row n h
 
 -- ---- what was written is read back

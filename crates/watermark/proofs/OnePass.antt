@@ -1,30 +1,35 @@
 -- The pass over the rows: at its start, a row more, at its end, and how far its numbers go.
 -- Assumes nothing.
-use Prim.Native.Nat.{ℕ, zero, suc, ◌+◌, ◌≤◌, ◌<◌, compare, Ordering}
+use Prim.Native.Nat.{ℕ, zero, suc, ◌+◌, ◌-◌, ◌≤◌, ◌<◌, compare, Ordering}
 use native.Mathlib.Omega.{arith}
 use native.Mathlib.Numerals.{add-one}
+use Rattle.std.proofs.Common.{add-zero}
 use mathlib.Core.Path.{◌≡◌, refl, sym, ap, ◌∙◌}
-use mathlib.Core.Bool.{Bool, true, false, cond, not, ◌&&◌}
+use mathlib.Core.Bool.{Bool, true, false, cond, ◌&&◌}
 use mathlib.Core.List.{List, [], ◌∷◌, ◌++◌}
 use lib.ListN.{length, length-append}
 use lib.Dec.{leb, ltb, eqb}
-use borrow.Author.Tests.{leb-true, ltb-true, ltb-false, eqb-true, eqb-false, eq-eqb, ne_eqb}
-use Rattle.paper.specs.Lists.{all, keep, is_empty, is_lt, rises_from, rises}
-use Rattle.paper.specs.Readers.{Row, cmp_row, readers_at, watermark}
+use borrow.Author.Tests.{ltb-true, ltb-false, eqb-true, eqb-false, eq-eqb, ne_eqb, lt-ltb, le-ltb, le-leb, lt-leb}
+use Rattle.paper.specs.Lists.{all, keep, is_lt, rises_from, rises}
+use Rattle.paper.specs.Readers.{Row, cmp_row, readers_at}
 use Rattle.paper.proofs.Bools.{and_left, and_right, is_lt-lt}
 use Rattle.paper.proofs.Order.{compare-lt, lt-compare}
 use Rattle.paper.proofs.Rising.{rises-of}
 use Rattle.paper.proofs.ReaderLaws.{row-order}
 use Rattle.watermark.specs.Table.{as_row, up_to}
-use Rattle.watermark.specs.Pass.{pick, unsound_scan, last_from, below, upto, found, scanned, within_of, passed_of, see_of}
+use Rattle.std.specs.Prelude.{Some, None, Result, Ok, Err}
+use Rattle.watermark.specs.Pass.{pick, unsound_table, last_from, last_of, below, upto, count_at, found, scanned, follows, passed_of, see_of}
 use Rattle.watermark.specs.declared.pass.Row as Lent
 use Rattle.watermark.specs.declared.pass.Scan.{Scan}
+use Rattle.watermark.specs.declared.reply.Unsound.{Unsound}
 
-pub scan-start : (b : Bool) (t : ℕ)
-    → ◌≡◌ {A = Scan} (record { time = t; sound = b; any = false; last = 0; least = 0; below = 0; upto = 0; count = 0 }) (scanned b t [])
-unfolding scanned rises all below upto keep readers_at watermark
-scan-start true t = refl
-scan-start false t = refl
+pub scan-start : (t : ℕ) → ◌≡◌ {A = Scan} (record { time = t; last = None; below = 0; count = None }) (found t [])
+unfolding below upto keep count_at
+scan-start t = refl
+
+pub start-sound : (t : ℕ) → scanned true t [] ≡ Ok (found t [])
+unfolding scanned rises all
+start-sound t = refl
 
 -- ---- tests of one row more
 and_assoc : (a b c : Bool) → (a && b) && c ≡ a && (b && c)
@@ -74,12 +79,8 @@ rises_from-snoc y (z ∷ zs) x =
     ap (λ b. is_lt (compare y.time z.time) && b) (rises_from-snoc z zs x)
     ∙ sym (and_assoc (is_lt (compare y.time z.time)) (rises_from cmp_row z zs) (ltb (last_from z.time zs) x.time))
 
--- a row with this timestamp may come next
-follows : List Row → ℕ → Bool
-follows l t = pick (not (is_empty l)) (ltb (last_from 0 l) t) true
-
-rises-snoc : (l : List Row) (x : Row) → rises cmp_row (l ++ (x ∷ [])) ≡ rises cmp_row l && follows l x.time
-unfolding rises rises_from follows
+rises-snoc : (l : List Row) (x : Row) → rises cmp_row (l ++ (x ∷ [])) ≡ rises cmp_row l && follows (last_of l) x.time
+unfolding rises rises_from
 rises-snoc [] x = refl
 rises-snoc (y ∷ ys) x = rises_from-snoc y ys x
 
@@ -87,10 +88,10 @@ abbrev counted : Row → Bool
 counted r = ltb 0 r.count
 
 next-test : (b : Bool) (l : List Row) (x : Row)
-    → b && (rises cmp_row (l ++ (x ∷ [])) && all counted (l ++ (x ∷ []))) ≡ (b && (rises cmp_row l && all counted l)) && (counted x && follows l x.time)
+    → b && (rises cmp_row (l ++ (x ∷ [])) && all counted (l ++ (x ∷ []))) ≡ (b && (rises cmp_row l && all counted l)) && (counted x && follows (last_of l) x.time)
 next-test b l x =
-    ap (λ c. b && (c && all counted (l ++ (x ∷ [])))) (rises-snoc l x) ∙ ap (λ c. b && ((rises cmp_row l && follows l x.time) && c)) (all_snoc counted l x)
-    ∙ and-four b (rises cmp_row l) (follows l x.time) (all counted l) (counted x)
+    ap (λ c. b && (c && all counted (l ++ (x ∷ [])))) (rises-snoc l x) ∙ ap (λ c. b && ((rises cmp_row l && follows (last_of l) x.time) && c)) (all_snoc counted l x)
+    ∙ and-four b (rises cmp_row l) (follows (last_of l) x.time) (all counted l) (counted x)
 
 -- ---- what is found of one row more
 keep_snoc : {A : Type 0} (p : A → Bool) (l : List A) (x : A) → length (keep p (l ++ (x ∷ []))) ≡ pick (p x) (length (keep p l) + 1) (length (keep p l))
@@ -108,18 +109,13 @@ keep_snoc p (y ∷ ys) x = go (p y) (p x) (keep_snoc p ys x)
     go true false ih = omega arith
     go false d ih = ih
 
-last_snoc : (u : ℕ) (l : List Row) (x : Row) → last_from u (l ++ (x ∷ [])) ≡ x.time
-last_snoc u [] x = refl
-last_snoc u (y ∷ ys) x = last_snoc y.time ys x
+last_from-snoc : (u : ℕ) (l : List Row) (x : Row) → last_from u (l ++ (x ∷ [])) ≡ x.time
+last_from-snoc u [] x = refl
+last_from-snoc u (y ∷ ys) x = last_from-snoc y.time ys x
 
-any_snoc : (l : List Row) (x : Row) → not (is_empty (l ++ (x ∷ []))) ≡ true
-any_snoc [] x = refl
-any_snoc (y ∷ ys) x = refl
-
-least-snoc : (l : List Row) (x : Row) → watermark 0 (l ++ (x ∷ [])) ≡ pick (not (is_empty l)) (watermark 0 l) x.time
-unfolding watermark
-least-snoc [] x = refl
-least-snoc (y ∷ ys) x = refl
+last_snoc : (l : List Row) (x : Row) → last_of (l ++ (x ∷ [])) ≡ Some x.time
+last_snoc [] x = refl
+last_snoc (y ∷ ys) x = ap Some (last_from-snoc y.time ys x)
 
 -- the last row stands above each
 below_last : (y : Row) (ys : List Row) (x : Row) → rises_from cmp_row y (ys ++ (x ∷ [])) ≡ true → y.time < x.time
@@ -148,73 +144,89 @@ readers-snoc t l x h = go (eqb x.time t) refl
     go true e = ap (λ (u : ℕ). readers_at u (l ++ (x ∷ []))) (sym (eqb-true x.time t e)) ∙ at_last l x h
     go false e = not_last t l x (ne_eqb t x.time (λ q. eqb-false x.time t e (sym q)))
 
-found-snoc : (t : ℕ) (l : List Row) (r : Lent.Row) → rises cmp_row (l ++ (as_row r ∷ [])) ≡ true
-    → passed_of (found t l) r (pick (not (is_empty l)) (watermark 0 l) r.time) ≡ found t (l ++ (as_row r ∷ []))
-unfolding passed_of below upto
+-- no more stand below than up to it
+pub below-upto : (t : ℕ) (l : List Row) → below t l ≤ upto t l
+unfolding below upto keep
+below-upto t [] = omega arith
+below-upto t (y ∷ ys) = go (ltb y.time t) (leb y.time t) (λ e. le-leb y.time t (let h : y.time < t = ltb-true y.time t e in omega arith)) (below-upto t ys)
+  where
+    go : (b c : Bool) → (b ≡ true → c ≡ true) → length (keep (λ r. ltb r.time t) ys) ≤ length (keep (λ r. leb r.time t) ys)
+        → length (cond b (y ∷ keep (λ r. ltb r.time t) ys) (keep (λ r. ltb r.time t) ys)) ≤ length (cond c (y ∷ keep (λ r. leb r.time t) ys) (keep (λ r. leb r.time t) ys))
+    go true true i h = omega arith
+    go true false i h = let n : false ≡ true = i refl in cc
+    go false true i h = omega arith
+    go false false i h = h
+
+below-snoc : (t : ℕ) (l : List Row) (x : Row) → below t (l ++ (x ∷ [])) ≡ pick (ltb x.time t) (below t l + 1) (below t l)
+unfolding below
+below-snoc t l x = keep_snoc (λ r. ltb r.time t) l x
+
+upto-snoc : (t : ℕ) (l : List Row) (x : Row) → upto t (l ++ (x ∷ [])) ≡ pick (leb x.time t) (upto t l + 1) (upto t l)
+unfolding upto
+upto-snoc t l x = keep_snoc (λ r. leb r.time t) l x
+
+both-more : (m n : ℕ) → ltb (m + 1) (n + 1) ≡ ltb m n
+both-more m n = go (ltb m n) refl
+  where
+    go : (b : Bool) → ltb m n ≡ b → ltb (m + 1) (n + 1) ≡ b
+    go true e = let h : m < n = ltb-true m n e in lt-ltb (m + 1) (n + 1) (omega arith)
+    go false e = let h : n ≤ m = ltb-false m n e in le-ltb (m + 1) (n + 1) (omega arith)
+
+count-snoc : (t : ℕ) (l : List Row) (x : Row) → rises cmp_row (l ++ (x ∷ [])) ≡ true → count_at t (l ++ (x ∷ [])) ≡ pick (eqb x.time t) (Some x.count) (count_at t l)
+unfolding count_at
+count-snoc t l x h = go (eqb x.time t) refl
+  where
+    go : (e : Bool) → eqb x.time t ≡ e
+        → pick (ltb (below t (l ++ (x ∷ []))) (upto t (l ++ (x ∷ [])))) (Some (readers_at t (l ++ (x ∷ [])))) None ≡ pick e (Some x.count) (pick (ltb (below t l) (upto t l)) (Some (readers_at t l)) None)
+    go true p =
+        let q : x.time ≡ t = eqb-true x.time t p in
+        let b : below t (l ++ (x ∷ [])) ≡ below t l = below-snoc t l x ∙ rw (le-ltb x.time t (omega arith)) in
+        let u : upto t (l ++ (x ∷ [])) ≡ upto t l + 1 = upto-snoc t l x ∙ rw (le-leb x.time t (omega arith)) in
+        rw (lt-ltb (below t (l ++ (x ∷ []))) (upto t (l ++ (x ∷ []))) (omega (arith, below-upto t l))) (ap Some (readers-snoc t l x h ∙ rw p))
+    go false p = at (ltb x.time t) refl
+      where
+        ne : x.time ≡ t → ⊥
+        ne = eqb-false x.time t p
+
+        at : (f : Bool) → ltb x.time t ≡ f
+            → pick (ltb (below t (l ++ (x ∷ []))) (upto t (l ++ (x ∷ [])))) (Some (readers_at t (l ++ (x ∷ [])))) None ≡ pick (ltb (below t l) (upto t l)) (Some (readers_at t l)) None
+        at true q =
+            let k : x.time < t = ltb-true x.time t q in
+            rw (below-snoc t l x, q, upto-snoc t l x, le-leb x.time t (omega arith), both-more (below t l) (upto t l), readers-snoc t l x h, p)
+        at false q =
+            let k : t ≤ x.time = ltb-false x.time t q in
+            rw (below-snoc t l x, q, upto-snoc t l x, lt-leb x.time t (omega (arith, ne)), readers-snoc t l x h, p)
+
+found-snoc : (t : ℕ) (l : List Row) (r : Lent.Row) → rises cmp_row (l ++ (as_row r ∷ [])) ≡ true → passed_of (found t l) r ≡ found t (l ++ (as_row r ∷ []))
+unfolding below
 found-snoc t l r h =
     λ i. record {
       time = t;
-      sound = true;
-      any = sym (any_snoc l (as_row r)) i;
-      last = sym (last_snoc 0 l (as_row r)) i;
-      least = sym (least-snoc l (as_row r)) i;
+      last = sym (last_snoc l (as_row r)) i;
       below = sym (keep_snoc (λ x. ltb x.time t) l (as_row r)) i;
-      upto = sym (keep_snoc (λ x. leb x.time t) l (as_row r)) i;
-      count = sym (readers-snoc t l (as_row r) h) i;
+      count = sym (count-snoc t l (as_row r) h) i;
     }
 
--- the rows rise where all tests hold
-rising-next : (b : Bool) (l : List Row) (x : Row) → b && (rises cmp_row (l ++ (x ∷ [])) && all counted (l ++ (x ∷ []))) ≡ true → rises cmp_row (l ++ (x ∷ [])) ≡ true
-rising-next b l x h = and_left (rises cmp_row (l ++ (x ∷ []))) (all counted (l ++ (x ∷ []))) (and_right b (rises cmp_row (l ++ (x ∷ [])) && all counted (l ++ (x ∷ []))) h)
-
--- a row more, after sound rows
-sound-step : (b : Bool) (t : ℕ) (l : List Row) (r : Lent.Row) (c f : Bool) → b && (rises cmp_row l && all counted l) ≡ true → ltb 0 r.count ≡ c → follows l r.time ≡ f
-    → see_of (found t l) r ≡ scanned b t (l ++ (as_row r ∷ []))
-unfolding scanned see_of follows
-sound-step b t l r false f e g h = simp (g, next-test, e, g)
-sound-step b t [] r true f e g h =
-    let all_hold : b && (rises cmp_row (as_row r ∷ []) && all counted (as_row r ∷ [])) ≡ true = next-test b [] (as_row r) ∙ simp (e, g) in
-    simp (g, all_hold) (found-snoc t [] r (rising-next b [] (as_row r) all_hold))
-sound-step b t (y ∷ ys) r true false e g h = simp (g, h, next-test, e, g, h)
-sound-step b t (y ∷ ys) r true true e g h =
-    let all_hold : b && (rises cmp_row ((y ∷ ys) ++ (as_row r ∷ [])) && all counted ((y ∷ ys) ++ (as_row r ∷ []))) ≡ true = next-test b (y ∷ ys) (as_row r) ∙ simp (e, g, h) in
-    simp (g, h, all_hold) (found-snoc t (y ∷ ys) r (rising-next b (y ∷ ys) (as_row r) all_hold))
+-- what a pass that came so far knows of one row more
+abbrev pub seen : Result Scan Unsound → Lent.Row → Result Scan Unsound
+seen (Ok s) r = see_of s r
+seen (Err u) r = Err u
 
 -- a row more
-pub scan_step : (b : Bool) (t : ℕ) (l : List Row) (r : Lent.Row) → see_of (scanned b t l) r ≡ scanned b t (l ++ (as_row r ∷ []))
+pub scan_step : (b : Bool) (t : ℕ) (l : List Row) (r : Lent.Row) → seen (scanned b t l) r ≡ scanned b t (l ++ (as_row r ∷ []))
 unfolding scanned see_of
-scan_step b t l r = go (b && (rises cmp_row l && all counted l)) refl
+scan_step b t l r = go (b && (rises cmp_row l && all counted l)) (counted (as_row r) && follows (last_of l) r.time) refl refl
   where
-    go : (d : Bool) → b && (rises cmp_row l && all counted l) ≡ d → see_of (pick d (found t l) (unsound_scan t)) r ≡ scanned b t (l ++ (as_row r ∷ []))
-    go false e = simp (next-test, e)
-    go true e = sound-step b t l r (ltb 0 r.count) (follows l r.time) e refl refl
-
--- the rows of which none is looked at are not sound
-pub scan-end : (f : ℕ → Row) (t used room : ℕ) → scanned (leb used room) t (up_to (within_of used room) f) ≡ scanned (leb used room) t (up_to used f)
-unfolding within_of scanned
-scan-end f t used room = go (leb used room)
-  where
-    go : (b : Bool) → scanned b t (up_to (pick b used 0) f) ≡ scanned b t (up_to used f)
-    go true = refl
-    go false = refl
-
--- ---- how far the numbers go
-keep-length : {A : Type 0} (p : A → Bool) (l : List A) → length (keep p l) ≤ length l
-unfolding keep
-keep-length p [] = omega arith
-keep-length p (y ∷ ys) = go (p y) (keep-length p ys)
-  where
-    go : (b : Bool) → length (keep p ys) ≤ length ys → length (cond b (y ∷ keep p ys) (keep p ys)) ≤ length (y ∷ ys)
-    go true h = omega arith
-    go false h = omega arith
-
-pub scan-within : (b : Bool) (t : ℕ) (l : List Row) → ((scanned b t l).below ≤ length l) × ((scanned b t l).upto ≤ length l)
-unfolding scanned below upto
-scan-within b t l = go (b && (rises cmp_row l && all counted l))
-  where
-    go : (d : Bool) → ((pick d (found t l) (unsound_scan t)).below ≤ length l) × ((pick d (found t l) (unsound_scan t)).upto ≤ length l)
-    go true = (keep-length (λ x. ltb x.time t) l, keep-length (λ x. leb x.time t) l)
-    go false = omega arith
+    go : (d e : Bool) → b && (rises cmp_row l && all counted l) ≡ d → counted (as_row r) && follows (last_of l) r.time ≡ e
+        → seen (pick d (Ok (found t l)) (Err unsound_table)) r ≡ pick (b && (rises cmp_row (l ++ (as_row r ∷ [])) && all counted (l ++ (as_row r ∷ [])))) (Ok (found t (l ++ (as_row r ∷ [])))) (Err unsound_table)
+    go false e p q = rw (next-test b l (as_row r), p)
+    go true false p q = rw (q, next-test b l (as_row r), p, q)
+    go true true p q =
+        let all_hold : b && (rises cmp_row (l ++ (as_row r ∷ [])) && all counted (l ++ (as_row r ∷ []))) ≡ true = next-test b l (as_row r) ∙ rw (p, q) in
+        rw (q, all_hold) (ap Ok (found-snoc t l r (rising all_hold)))
+      where
+        rising : b && (rises cmp_row (l ++ (as_row r ∷ [])) && all counted (l ++ (as_row r ∷ []))) ≡ true → rises cmp_row (l ++ (as_row r ∷ [])) ≡ true
+        rising h = and_left (rises cmp_row (l ++ (as_row r ∷ []))) (all counted (l ++ (as_row r ∷ []))) (and_right b (rises cmp_row (l ++ (as_row r ∷ [])) && all counted (l ++ (as_row r ∷ []))) h)
 
 -- ---- the loop that passes the rows f 0, f 1, ..
 pub length-up_to : {A : Type 0} (n : ℕ) (f : ℕ → A) → length (up_to n f) ≡ n
@@ -226,37 +238,41 @@ pub up_to-next : {A : Type 0} (n : ℕ) (f : ℕ → A) → up_to (n + 1) f ≡ 
 unfolding up_to
 up_to-next n f = rw add-one
 
-pub within-room : (used room : ℕ) → (within_of used room ≤ room) × (within_of used room ≤ used)
-unfolding within_of
-within-room used room = go (leb used room) refl
+-- what is known after n rows, and what is known after the next, in which order f has them
+pub next-seen : (t : ℕ) (f : ℕ → Row) (n : ℕ) (s : Scan) (r : Lent.Row) → Ok s ≡ scanned true t (up_to n f) → as_row r ≡ f n → see_of s r ≡ scanned true t (up_to (n + 1) f)
+next-seen t f n s r e q =
+    ap (λ (x : Result Scan Unsound). seen x r) e ∙ scan_step true t (up_to n f) r ∙ ap (λ (x : Row). scanned true t (up_to n f ++ (x ∷ []))) q ∙ ap (scanned true t) (sym (up_to-next n f))
+
+-- rows that are not sound are not so with more behind them
+stays-unsound : (t : ℕ) (f : ℕ → Row) (n m : ℕ) (u : Unsound) → Err u ≡ scanned true t (up_to n f) → Err u ≡ scanned true t (up_to (n + m) f)
+stays-unsound t f n zero u e = rw add-zero e
+stays-unsound t f n (suc m) u e =
+    let r : Lent.Row = record { time = (f (n + m)).time; count = (f (n + m)).count } in
+    let k : n + m + 1 ≡ n + suc m = omega arith in
+    ap (λ (x : Result Scan Unsound). seen x r) (stays-unsound t f n m u e) ∙ scan_step true t (up_to (n + m) f) r ∙ ap (scanned true t) (sym (up_to-next (n + m) f))
+    ∙ ap (λ (i : ℕ). scanned true t (up_to i f)) k
+
+pub still-unsound : (t : ℕ) (f : ℕ → Row) (n m : ℕ) (u : Unsound) → n ≤ m → Err u ≡ scanned true t (up_to n f) → Err u ≡ scanned true t (up_to m f)
+still-unsound t f n m u h e = let k : n + (m - n) ≡ m = omega arith in stays-unsound t f n (m - n) u e ∙ ap (λ (i : ℕ). scanned true t (up_to i f)) k
+
+-- no more rows stand below than there are
+keep-length : {A : Type 0} (p : A → Bool) (l : List A) → length (keep p l) ≤ length l
+unfolding keep
+keep-length p [] = omega arith
+keep-length p (y ∷ ys) = go (p y) (keep-length p ys)
   where
-    go : (b : Bool) → leb used room ≡ b → (pick b used 0 ≤ room) × (pick b used 0 ≤ used)
-    go true e = (leb-true used room e, omega arith)
-    go false e = omega arith
+    go : (b : Bool) → length (keep p ys) ≤ length ys → length (cond b (y ∷ keep p ys) (keep p ys)) ≤ length (y ∷ ys)
+    go true h = omega arith
+    go false h = omega arith
 
-pub record Scanning (fits : Bool) (t end : ℕ) (f : ℕ → Row) (s : Scan) (i : ℕ) : Type 0 where
-  pub inside : i ≤ end
-  pub told : s ≡ scanned fits t (up_to i f)
+pub below-within : (t : ℕ) (f : ℕ → Row) (n : ℕ) (s : Scan) → Ok s ≡ scanned true t (up_to n f) → s.below ≤ n
+unfolding scanned below
+below-within t f n s e = go (true && (rises cmp_row (up_to n f) && all counted (up_to n f))) e
+  where
+    go : (b : Bool) → Ok s ≡ pick b (Ok (found t (up_to n f))) (Err unsound_table) → s.below ≤ n
+    go true q = let h : s ≡ found t (up_to n f) = cc in omega (arith, ap (λ (x : Scan). x.below) h, keep-length (λ r. ltb r.time t) (up_to n f), length-up_to n f)
+    go false q = cc
 
-module _ (fits : Bool) (t end : ℕ) (f : ℕ → Row) (s : Scan) where
-  pub scanning-start : s ≡ scanned fits t [] → Scanning fits t end f s 0
-  unfolding up_to
-  scanning-start e = record { inside = omega arith; told = e }
-
-  pub scanning-step : (i : ℕ) (s' : Scan) (r : Lent.Row) → Scanning fits t end f s i → i < end → as_row r ≡ f i → s' ≡ see_of s r → Scanning fits t end f s' (i + 1)
-  scanning-step i s' r h l e g =
-      record {
-        inside = omega arith;
-        told = g ∙ ap (λ (z : Scan). see_of z r) h.told ∙ scan_step fits t (up_to i f) r ∙ ap (λ (x : Row). scanned fits t (up_to i f ++ (x ∷ []))) e ∙ ap (scanned fits t) (sym (up_to-next i f));
-      }
-
-  pub scanning-within : (i : ℕ) → Scanning fits t end f s i → (s.below ≤ i) × (s.upto ≤ i)
-  scanning-within i h =
-      let w = scan-within fits t (up_to i f) in
-      (omega (arith, w.0, length-up_to i f, ap (λ (z : Scan). z.below) h.told), omega (arith, w.1, length-up_to i f, ap (λ (z : Scan). z.upto) h.told))
-
-pub scanning-end : (t used room : ℕ) (f : ℕ → Row) (s : Scan) (i : ℕ) → Scanning (leb used room) t (within_of used room) f s i → within_of used room ≤ i
-    → s ≡ scanned (leb used room) t (up_to used f)
-scanning-end t used room f s i h l =
-    let e : i ≡ within_of used room = omega arith in
-    h.told ∙ ap (λ (n : ℕ). scanned (leb used room) t (up_to n f)) e ∙ scan-end f t used room
+pub upto-within : (t : ℕ) (l : List Row) → upto t l ≤ length l
+unfolding upto
+upto-within t l = keep-length (λ r. leb r.time t) l

@@ -5,23 +5,23 @@ use native.Mathlib.Omega.{arith}
 use mathlib.Core.Path.{◌≡◌, refl, sym, ap, ap₂, ◌∙◌, subst}
 use mathlib.Core.Bool.{Bool, true, false, ◌&&◌}
 use mathlib.Core.List.{List, [], ◌∷◌, ◌++◌, map, map-append, append_assoc}
-use mathlib.Core.Option.{none, some}
 use lib.ListN.{length, take, drop, length-append, length-drop, length-map, take-append-drop}
 use lib.Seq.{paste, length-take-le, take-append-le, drop-append-le, take_at, drop-append-add, drop-drop}
 use lib.Dec.{leb, ltb}
 use borrow.Author.Tests.{leb-true, ltb-true, ltb-false, lt-ltb, le-leb, lt-leb}
 use Rattle.paper.specs.Lists.{all, rises}
-use Rattle.paper.specs.Readers.{Row, row, cmp_row, sound_rows, readers_at, add_reader, remove_reader, watermark}
-use Rattle.paper.specs.Refusals.{Refusal, unsound, no_room, reader_table, counter_full, no_reader, Try, stop, go, must, ◌>>◌}
+use Rattle.paper.specs.Readers.{Row, row, cmp_row, sound_rows, readers_at, add_reader, remove_reader}
+use Rattle.paper.specs.Refusals.{unsound, no_room, reader_table, counter_full, no_reader, Try, stop, go, must, ◌>>◌}
 use Rattle.paper.specs.Settings.{most_number}
-use Rattle.paper.specs.Calls.{try_add_row, try_remove_row, try_smallest, try_timestamps}
+use Rattle.paper.specs.Calls.{try_add_row, try_remove_row}
 use Rattle.paper.proofs.Bools.{and_left, and_right}
-use Rattle.watermark.specs.Table.{as_row, added_says, removed_says, smallest_says, timestamps_says, mark_says, sized, written, try_watermark}
-use Rattle.watermark.specs.Pass.{pick, unsound_scan, below, upto, found, scanned, put_in, moved_down, no_put, no_cut, put_at, refuse_adding, adding_of, refuse_removing, removing_of, smallest_of, timestamps_of, mark_of}
-use Rattle.watermark.specs.declared.pass.Adding.{Adding}
+use Rattle.std.specs.Prelude.{max, Some, None, Result, Ok, Err}
+use Rattle.watermark.specs.Table.{as_row, add_refused, remove_refused, sized, written}
+use Rattle.watermark.specs.Pass.{pick, below, upto, count_at, found, put_in, moved_down, put_at, counted_more, rowed_more, adding, adding_of, counted_less, removing, removing_of}
+use Rattle.watermark.specs.declared.pass.Put.{Put}
 use Rattle.watermark.specs.declared.pass.Removing.{Removing}
-use Rattle.watermark.specs.declared.reply.Added.{Added}
-use Rattle.watermark.specs.declared.reply.Removed.{Removed}
+use Rattle.watermark.specs.declared.reply.AddRefusal.{AddRefusal}
+use Rattle.watermark.specs.declared.reply.RemoveRefusal.{RemoveRefusal}
 use Rattle.watermark.proofs.Splits.{Split, split}
 
 -- ---- a slice that begins with g and goes on with h
@@ -51,12 +51,6 @@ module _ {A : Type 0} (g h : List A) where
       ap₂ {C = List A} (λ p q. p ++ q ++ drop (b + (n - (b + 1))) (g ++ h)) (take-append-le b g h (omega arith)) m
       ∙ ap (λ (i : ℕ). take b g ++ drop (b + 1) g ++ drop i (g ++ h)) j
 
-put-none : {A : Type 0} (zs : List A) (x : A) → put_in zs 0 0 x ≡ zs
-put-none zs x = refl
-
-cut-none : {A : Type 0} (zs : List A) → moved_down zs 0 0 0 ≡ zs
-cut-none zs = refl
-
 module _ {A B : Type 0} (f : A → B) where
   map-take : (n : ℕ) (l : List A) → map f (take n l) ≡ take n (map f l)
   map-take zero l = refl
@@ -80,17 +74,15 @@ length-put b u x l h k = length-append (take b l) (x ∷ drop u l) ∙ ap₂ (λ
 length_cut : {A : Type 0} (b u : ℕ) (l : List A) → b ≤ length l → u ≤ length l → length (take b l ++ drop u l) ≡ b + (length l - u)
 length_cut b u l h k = length-append (take b l) (drop u l) ∙ ap₂ (λ (m n : ℕ). m + n) (length-take-le b l h) (length-drop u l)
 
--- ---- the ways in which adding a reader ends
-pub data AddWay (room t : ℕ) (rows : List Row) : Adding → Try (List Row) → Type 0 where
-  refused : (r : Added) (why : Refusal) → added_says r ≡ stop why → AddWay room t rows (refuse_adding r) (stop why)
-  counted : (b n : ℕ) → b < length rows → length rows ≤ room
-      → AddWay room t rows (record { reply = Added.Done (length rows); put = put_at b (b + 1) t n }) (go (take b rows ++ (row t n ∷ drop (b + 1) rows)))
-  rowed : (b : ℕ) → b ≤ length rows → length rows < room
-      → AddWay room t rows (record { reply = Added.Done (length rows + 1); put = put_at b (length rows + 1) t 1 }) (go (take b rows ++ (row t 1 ∷ drop b rows)))
+-- ---- the ways in which adding a reader to a sound table ends
+pub data AddWay (room t : ℕ) (rows : List Row) : Result Put AddRefusal → Try (List Row) → Type 0 where
+  refused : (why : AddRefusal) → AddWay room t rows (Err why) (stop (add_refused why))
+  counted : (b n : ℕ) → b < length rows → length rows ≤ room → AddWay room t rows (Ok (put_at b (b + 1) t n)) (go (take b rows ++ (row t n ∷ drop (b + 1) rows)))
+  rowed : (b : ℕ) → b ≤ length rows → length rows < room → AddWay room t rows (Ok (put_at b (length rows + 1) t 1)) (go (take b rows ++ (row t 1 ∷ drop b rows)))
 
 module _ (room t : ℕ) (rows : List Row) where
-  as-way : {p q : Adding} {m n : Try (List Row)} → p ≡ q → m ≡ n → AddWay room t rows q n → AddWay room t rows p m
-  as-way {p} {q} {m} {n} e g w = subst (λ (x : Adding). AddWay room t rows x m) (sym e) (subst (λ (x : Try (List Row)). AddWay room t rows q x) (sym g) w)
+  meant-so : {p : Result Put AddRefusal} {m n : Try (List Row)} → m ≡ n → AddWay room t rows p n → AddWay room t rows p m
+  meant-so {p} {m} {n} g w = subst (λ (x : Try (List Row)). AddWay room t rows p x) (sym g) w
 
   added_is : Split t rows → add_reader t rows ≡ take (below t rows) rows ++ (row t (readers_at t rows + 1) ∷ drop (upto t rows) rows)
   unfolding add_reader
@@ -109,7 +101,7 @@ module _ (room t : ℕ) (rows : List Row) where
   unfolding try_add_row must ◌>>◌
   add-count-full s l c = simp (s, le-leb (length (add_reader t rows)) room l, c)
 
-  add-unsound : sound_rows room rows ≡ false → try_add_row room rows t ≡ stop unsound
+  pub add-unsound : sound_rows room rows ≡ false → try_add_row room rows t ≡ stop unsound
   unfolding try_add_row must ◌>>◌
   add-unsound s = simp s
 
@@ -121,73 +113,66 @@ module _ (room t : ℕ) (rows : List Row) where
   unfolding sound_rows
   all-counted s = and_right (rises cmp_row rows) (all (λ r. ltb 0 r.count) rows) (and_right (leb (length rows) room) (rises cmp_row rows && all (λ r. ltb 0 r.count) rows) s)
 
-  fits : sound_rows room rows ≡ true → length rows ≤ room
+  pub fits : sound_rows room rows ≡ true → length rows ≤ room
   unfolding sound_rows
   fits s = leb-true (length rows) room (and_left (leb (length rows) room) (rises cmp_row rows && all (λ r. ltb 0 r.count) rows) s)
 
   -- the row of t counts one more
-  add-hit : sound_rows room rows ≡ true → Split t rows → below t rows < upto t rows → (c : Bool) → ltb (readers_at t rows) most_number ≡ c
-      → AddWay room t rows (pick c (record { reply = Added.Done (length rows); put = put_at (below t rows) (upto t rows) t (readers_at t rows + 1) }) (refuse_adding Added.CountFull)) (try_add_row room rows t)
-  add-hit s p l c e =
+  add-hit : sound_rows room rows ≡ true → Split t rows → below t rows < upto t rows → AddWay room t rows (counted_more (found t rows) (readers_at t rows)) (try_add_row room rows t)
+  add-hit s p l =
       let u : upto t rows ≡ below t rows + 1 = omega (arith, p.most) in
       let k : length (add_reader t rows) ≡ length rows = ap length (added_is p) ∙ length-put (below t rows) (upto t rows) (row t (readers_at t rows + 1)) rows (omega (arith, p.inside)) p.inside ∙ omega (arith, p.inside) in
-      at u k c e
+      at u k (ltb (readers_at t rows) most_number) refl
     where
       at : upto t rows ≡ below t rows + 1 → length (add_reader t rows) ≡ length rows → (c : Bool) → ltb (readers_at t rows) most_number ≡ c
-          → AddWay room t rows (pick c (record { reply = Added.Done (length rows); put = put_at (below t rows) (upto t rows) t (readers_at t rows + 1) }) (refuse_adding Added.CountFull)) (try_add_row room rows t)
+          → AddWay room t rows (pick c (Ok (put_at (below t rows) (below t rows + 1) t (readers_at t rows + 1))) (Err AddRefusal.CountFull)) (try_add_row room rows t)
       at u k true e =
-          as-way (ap (λ (i : ℕ). record { reply = Added.Done (length rows); put = put_at (below t rows) i t (readers_at t rows + 1) }) u)
-          (try-add s (omega (arith, fits s)) (ltb-true (readers_at t rows) most_number e)
+          meant-so (try-add s (omega (arith, fits s)) (ltb-true (readers_at t rows) most_number e)
           ∙ ap go (added_is p ∙ ap (λ (i : ℕ). take (below t rows) rows ++ (row t (readers_at t rows + 1) ∷ drop i rows)) u))
           (counted (below t rows) (readers_at t rows + 1) (omega (arith, p.inside)) (fits s))
-      at u k false e = as-way refl (add-count-full s (omega (arith, fits s)) e) (refused Added.CountFull counter_full refl)
+      at u k false e = meant-so (add-count-full s (omega (arith, fits s)) e) (refused AddRefusal.CountFull)
 
   -- a row for t, if there is room
-  add-miss : sound_rows room rows ≡ true → Split t rows → upto t rows ≤ below t rows → (f : Bool) → ltb (length rows) room ≡ f
-      → AddWay room t rows (pick f (record { reply = Added.Done (length rows + 1); put = put_at (below t rows) (length rows + 1) t 1 }) (refuse_adding Added.Full)) (try_add_row room rows t)
-  add-miss s p l f e =
+  add-miss : sound_rows room rows ≡ true → Split t rows → upto t rows ≤ below t rows → AddWay room t rows (rowed_more (found t rows) (length rows) room) (try_add_row room rows t)
+  add-miss s p l =
       let u : upto t rows ≡ below t rows = omega (arith, p.least) in
       let k : length (add_reader t rows) ≡ length rows + 1 = ap length (added_is p) ∙ length-put (below t rows) (upto t rows) (row t (readers_at t rows + 1)) rows (omega (arith, p.inside)) p.inside ∙ omega (arith, p.inside) in
-      at u k f e
+      at u k (ltb (length rows) room) refl
     where
       at : upto t rows ≡ below t rows → length (add_reader t rows) ≡ length rows + 1 → (f : Bool) → ltb (length rows) room ≡ f
-          → AddWay room t rows (pick f (record { reply = Added.Done (length rows + 1); put = put_at (below t rows) (length rows + 1) t 1 }) (refuse_adding Added.Full)) (try_add_row room rows t)
+          → AddWay room t rows (pick f (Ok (put_at (below t rows) (length rows + 1) t 1)) (Err AddRefusal.Full)) (try_add_row room rows t)
       at u k true e =
           let z : readers_at t rows ≡ 0 = p.absent l in
-          as-way refl
-          (try-add s (omega (arith, ltb-true (length rows) room e)) (omega arith)
+          meant-so (try-add s (omega (arith, ltb-true (length rows) room e)) (omega arith)
           ∙ ap go (added_is p ∙ ap₂ (λ (i n : ℕ). take (below t rows) rows ++ (row t (n + 1) ∷ drop i rows)) u z))
           (rowed (below t rows) (omega (arith, p.inside)) (ltb-true (length rows) room e))
-      at u k false e = as-way refl (add-full s (omega (arith, ltb-false (length rows) room e))) (refused Added.Full (no_room reader_table) refl)
+      at u k false e = meant-so (add-full s (omega (arith, ltb-false (length rows) room e))) (refused AddRefusal.Full)
 
-  pub add-way : AddWay room t rows (adding_of (scanned (leb (length rows) room) t rows) (length rows) room) (try_add_row room rows t)
-  unfolding scanned adding_of sound_rows
-  add-way = at (sound_rows room rows) refl
+  pub add-way : sound_rows room rows ≡ true → AddWay room t rows (adding_of (found t rows) (length rows) room) (try_add_row room rows t)
+  unfolding adding_of count_at
+  add-way s = at (ltb (below t rows) (upto t rows)) refl
     where
-      at : (d : Bool) → sound_rows room rows ≡ d → AddWay room t rows (adding_of (pick d (found t rows) (unsound_scan t)) (length rows) room) (try_add_row room rows t)
-      at false e = as-way refl (add-unsound e) (refused Added.Unsound unsound refl)
-      at true e = here (ltb (below t rows) (upto t rows)) refl
-        where
-          here : (h : Bool) → ltb (below t rows) (upto t rows) ≡ h
-              → AddWay room t rows
-              (pick h
-              (pick (ltb (readers_at t rows) most_number) (record { reply = Added.Done (length rows); put = put_at (below t rows) (upto t rows) t (readers_at t rows + 1) }) (refuse_adding Added.CountFull))
-              (pick (ltb (length rows) room) (record { reply = Added.Done (length rows + 1); put = put_at (below t rows) (length rows + 1) t 1 }) (refuse_adding Added.Full)))
-              (try_add_row room rows t)
-          here true g = add-hit e (split t rows (rising e)) (ltb-true (below t rows) (upto t rows) g) (ltb (readers_at t rows) most_number) refl
-          here false g = add-miss e (split t rows (rising e)) (ltb-false (below t rows) (upto t rows) g) (ltb (length rows) room) refl
+      at : (h : Bool) → ltb (below t rows) (upto t rows) ≡ h
+          → AddWay room t rows (adding (found t rows) (length rows) room (pick h (Some (readers_at t rows)) None)) (try_add_row room rows t)
+      at true g = add-hit s (split t rows (rising s)) (ltb-true (below t rows) (upto t rows) g)
+      at false g = add-miss s (split t rows (rising s)) (ltb-false (below t rows) (upto t rows) g)
+
+pub add-stops : {room t : ℕ} {rows : List Row} {why : AddRefusal} {m : Try (List Row)} → AddWay room t rows (Err why) m → m ≡ stop (add_refused why)
+add-stops (refused why) = refl
 
 -- the reply says what the paper says
-pub add-says : {room t : ℕ} {rows : List Row} {p : Adding} {m : Try (List Row)} → AddWay room t rows p m → added_says p.reply ≡ sized m
-add-says (refused r why e) = e
-add-says {rows = rows} (counted b n l k) = ap go (sym (length-put b (b + 1) _ rows (omega arith) (omega arith) ∙ omega arith))
-add-says {rows = rows} (rowed b l k) = ap go (sym (length-put b b _ rows (omega arith) (omega arith) ∙ omega arith))
+pub add-says : {room t : ℕ} {rows : List Row} {p : Put} {m : Try (List Row)} → AddWay room t rows (Ok p) m → go (max (length rows) p.to) ≡ sized m
+add-says {rows = rows} (counted b n l k) =
+    let m : max (length rows) (b + 1) ≡ b + suc (length rows - (b + 1)) = omega arith in
+    ap go (m ∙ sym (length-put b (b + 1) _ rows (omega arith) (omega arith)))
+add-says {rows = rows} (rowed b l k) =
+    let m : max (length rows) (length rows + 1) ≡ b + suc (length rows - b) = omega arith in
+    ap go (m ∙ sym (length-put b b _ rows (omega arith) (omega arith)))
 
 -- what is put in lies within the room
-pub add-within : {room t : ℕ} {rows : List Row} {p : Adding} {m : Try (List Row)} → AddWay room t rows p m → (p.put.from ≤ p.put.to) × (p.put.to ≤ room)
-add-within (refused r why e) = omega arith
-add-within (counted b n l k) = omega arith
-add-within (rowed b l k) = omega arith
+pub add-within : {room t : ℕ} {rows : List Row} {p : Put} {m : Try (List Row)} → AddWay room t rows (Ok p) m → (p.from < p.to) × (p.to ≤ room)
+add-within (counted b n l k) = (omega arith, omega arith)
+add-within (rowed b l k) = (omega arith, omega arith)
 
 -- ---- a slice of which the rows' part stands in front has the new rows' part in front afterwards
 module _ {A : Type 0} (f : Row → A) (rows : List Row) (zs : List A) (e : map f rows ≡ take (length rows) zs) where
@@ -220,26 +205,24 @@ module _ {A : Type 0} (f : Row → A) (rows : List Row) (zs : List A) (e : map f
       ap (λ (z : List A). moved_down z b (b + 1) (length rows)) whole ∙ cut-hit (take (length rows) zs) (drop (length rows) zs) b (length rows) front l
       ∙ ap₂ {C = List A} (λ p q. p ++ q) (sym (map-cut f b (b + 1) rows ∙ ap (λ (m : List A). take b m ++ drop (b + 1) m) e)) (ap (drop (length rows - 1)) (sym whole) ∙ ap (λ (k : ℕ). drop k zs) n)
 
-pub add-writes : {A : Type 0} (f : Row → A) {room t : ℕ} {rows : List Row} (zs : List A) {p : Adding} {m : Try (List Row)} → AddWay room t rows p m
-    → (length rows ≤ room → map f rows ≡ take (length rows) zs) → put_in zs p.put.from p.put.to (f (as_row p.put.row)) ≡ written f m zs
+pub add-writes : {A : Type 0} (f : Row → A) {room t : ℕ} {rows : List Row} (zs : List A) {p : Put} {m : Try (List Row)} → AddWay room t rows (Ok p) m
+    → (length rows ≤ room → map f rows ≡ take (length rows) zs) → put_in zs p.from p.to (f (as_row p.row)) ≡ written f m zs
 unfolding written
-add-writes f zs (refused r why e) k = refl
 add-writes f {rows = rows} zs (counted b n l i) k = write-counted f rows zs (k i) b _ l
 add-writes f {rows = rows} zs (rowed b l i) k = write-rowed f rows zs (k (omega arith)) b _ l
 
--- ---- the ways in which removing a reader ends
-pub data RemoveWay (room t : ℕ) (rows : List Row) : Removing → Try (List Row) → Type 0 where
-  missed : (r : Removed) (why : Refusal) → removed_says r ≡ stop why → RemoveWay room t rows (refuse_removing r) (stop why)
+-- ---- the ways in which removing a reader from a sound table ends
+pub data RemoveWay (room t : ℕ) (rows : List Row) : Result Removing RemoveRefusal → Try (List Row) → Type 0 where
+  missed : (why : RemoveRefusal) → RemoveWay room t rows (Err why) (stop (remove_refused why))
   fewer : (b n : ℕ) → b < length rows → length rows ≤ room
-      → RemoveWay room t rows (record { reply = Removed.Done (length rows); put = put_at b (b + 1) t n; cut = no_cut }) (go (take b rows ++ (row t n ∷ drop (b + 1) rows)))
-  gone : (b : ℕ) → b < length rows → length rows ≤ room
-      → RemoveWay room t rows (record { reply = Removed.Done (length rows - 1); put = no_put; cut = record { from = b; next = b + 1; to = length rows } }) (go (take b rows ++ drop (b + 1) rows))
+      → RemoveWay room t rows (Ok (Removing.Fewer (put_at b (b + 1) t n))) (go (take b rows ++ (row t n ∷ drop (b + 1) rows)))
+  gone : (b : ℕ) → b < length rows → length rows ≤ room → RemoveWay room t rows (Ok (Removing.Gone b)) (go (take b rows ++ drop (b + 1) rows))
 
 module _ (room t : ℕ) (rows : List Row) where
-  to-way : {p q : Removing} {m n : Try (List Row)} → p ≡ q → m ≡ n → RemoveWay room t rows q n → RemoveWay room t rows p m
-  to-way {p} {q} {m} {n} e g w = subst (λ (x : Removing). RemoveWay room t rows x m) (sym e) (subst (λ (x : Try (List Row)). RemoveWay room t rows q x) (sym g) w)
+  means : {p : Result Removing RemoveRefusal} {m n : Try (List Row)} → m ≡ n → RemoveWay room t rows p n → RemoveWay room t rows p m
+  means {p} {m} {n} g w = subst (λ (x : Try (List Row)). RemoveWay room t rows p x) (sym g) w
 
-  remove-unsound : sound_rows room rows ≡ false → try_remove_row room rows t ≡ stop unsound
+  pub remove-unsound : sound_rows room rows ≡ false → try_remove_row room rows t ≡ stop unsound
   unfolding try_remove_row must ◌>>◌
   remove-unsound s = simp s
 
@@ -259,90 +242,56 @@ module _ (room t : ℕ) (rows : List Row) where
   unfolding remove_reader
   removed-one p e = simp e (p.puts (readers_at t rows - 1))
 
-  remove-hit : sound_rows room rows ≡ true → Split t rows → below t rows < upto t rows → (c : Bool) → leb (readers_at t rows) 1 ≡ c
-      → RemoveWay room t rows
-      (pick c (record { reply = Removed.Done (length rows - 1); put = no_put; cut = record { from = below t rows; next = upto t rows; to = length rows } })
-      (record { reply = Removed.Done (length rows); put = put_at (below t rows) (upto t rows) t (readers_at t rows - 1); cut = no_cut }))
-      (try_remove_row room rows t)
-  remove-hit s p l true e =
+  remove-hit : sound_rows room rows ≡ true → Split t rows → below t rows < upto t rows → RemoveWay room t rows (Ok (counted_less (found t rows) (readers_at t rows))) (try_remove_row room rows t)
+  remove-hit s p l =
       let u : upto t rows ≡ below t rows + 1 = omega (arith, p.most) in
-      to-way (ap (λ (i : ℕ). record { reply = Removed.Done (length rows - 1); put = no_put; cut = record { from = below t rows; next = i; to = length rows } }) u)
-      (try-remove s (p.present l (all-counted room t rows s)) ∙ ap go (removed-last p e ∙ ap (λ (i : ℕ). take (below t rows) rows ++ drop i rows) u))
-      (gone (below t rows) (omega (arith, p.inside)) (fits room t rows s))
-  remove-hit s p l false e =
-      let u : upto t rows ≡ below t rows + 1 = omega (arith, p.most) in
-      to-way (ap (λ (i : ℕ). record { reply = Removed.Done (length rows); put = put_at (below t rows) i t (readers_at t rows - 1); cut = no_cut }) u)
-      (try-remove s (p.present l (all-counted room t rows s)) ∙ ap go (removed-one p e ∙ ap (λ (i : ℕ). take (below t rows) rows ++ (row t (readers_at t rows - 1) ∷ drop i rows)) u))
-      (fewer (below t rows) (readers_at t rows - 1) (omega (arith, p.inside)) (fits room t rows s))
-
-  pub remove-way : RemoveWay room t rows (removing_of (scanned (leb (length rows) room) t rows) (length rows)) (try_remove_row room rows t)
-  unfolding scanned removing_of sound_rows
-  remove-way = at (sound_rows room rows) refl
+      at u (leb (readers_at t rows) 1) refl
     where
-      at : (d : Bool) → sound_rows room rows ≡ d → RemoveWay room t rows (removing_of (pick d (found t rows) (unsound_scan t)) (length rows)) (try_remove_row room rows t)
-      at false e = to-way refl (remove-unsound e) (missed Removed.Unsound unsound refl)
-      at true e = here (ltb (below t rows) (upto t rows)) refl
-        where
-          here : (h : Bool) → ltb (below t rows) (upto t rows) ≡ h
-              → RemoveWay room t rows
-              (pick h
-              (pick (leb (readers_at t rows) 1)
-              (record { reply = Removed.Done (length rows - 1); put = no_put; cut = record { from = below t rows; next = upto t rows; to = length rows } })
-              (record { reply = Removed.Done (length rows); put = put_at (below t rows) (upto t rows) t (readers_at t rows - 1); cut = no_cut }))
-              (refuse_removing Removed.Missing))
-              (try_remove_row room rows t)
-          here true g = remove-hit e (split t rows (rising room t rows e)) (ltb-true (below t rows) (upto t rows) g) (leb (readers_at t rows) 1) refl
-          here false g = to-way refl (remove-missing e ((split t rows (rising room t rows e)).absent (ltb-false (below t rows) (upto t rows) g))) (missed Removed.Missing no_reader refl)
+      at : upto t rows ≡ below t rows + 1 → (c : Bool) → leb (readers_at t rows) 1 ≡ c
+          → RemoveWay room t rows (Ok (pick c (Removing.Gone (below t rows)) (Removing.Fewer (put_at (below t rows) (below t rows + 1) t (readers_at t rows - 1))))) (try_remove_row room rows t)
+      at u true e =
+          means (try-remove s (p.present l (all-counted room t rows s)) ∙ ap go (removed-last p e ∙ ap (λ (i : ℕ). take (below t rows) rows ++ drop i rows) u))
+          (gone (below t rows) (omega (arith, p.inside)) (fits room t rows s))
+      at u false e =
+          means (try-remove s (p.present l (all-counted room t rows s)) ∙ ap go (removed-one p e ∙ ap (λ (i : ℕ). take (below t rows) rows ++ (row t (readers_at t rows - 1) ∷ drop i rows)) u))
+          (fewer (below t rows) (readers_at t rows - 1) (omega (arith, p.inside)) (fits room t rows s))
 
-pub remove-says : {room t : ℕ} {rows : List Row} {p : Removing} {m : Try (List Row)} → RemoveWay room t rows p m → removed_says p.reply ≡ sized m
-remove-says (missed r why e) = e
-remove-says {rows = rows} (fewer b n l k) = ap go (sym (length-put b (b + 1) _ rows (omega arith) (omega arith) ∙ omega arith))
-remove-says {rows = rows} (gone b l k) = ap go (sym (length_cut b (b + 1) rows (omega arith) (omega arith) ∙ omega arith))
+  pub remove-way : sound_rows room rows ≡ true → RemoveWay room t rows (removing_of (found t rows)) (try_remove_row room rows t)
+  unfolding removing_of count_at
+  remove-way s = at (ltb (below t rows) (upto t rows)) refl
+    where
+      at : (h : Bool) → ltb (below t rows) (upto t rows) ≡ h → RemoveWay room t rows (removing (found t rows) (pick h (Some (readers_at t rows)) None)) (try_remove_row room rows t)
+      at true g = remove-hit s (split t rows (rising room t rows s)) (ltb-true (below t rows) (upto t rows) g)
+      at false g =
+          means (remove-missing s ((split t rows (rising room t rows s)).absent (ltb-false (below t rows) (upto t rows) g))) (missed RemoveRefusal.Missing)
 
-pub record RemoveWithin (room : ℕ) (p : Removing) : Type 0 where
-  pub put-from : p.put.from ≤ p.put.to
-  pub put-to : p.put.to ≤ room
-  pub cut-from : p.cut.from ≤ p.cut.next
-  pub cut-next : p.cut.next ≤ p.cut.to
-  pub cut-to : p.cut.to ≤ room
+pub remove-stops : {room t : ℕ} {rows : List Row} {why : RemoveRefusal} {m : Try (List Row)} → RemoveWay room t rows (Err why) m → m ≡ stop (remove_refused why)
+remove-stops (missed why) = refl
 
-pub remove-within : {room t : ℕ} {rows : List Row} {p : Removing} {m : Try (List Row)} → RemoveWay room t rows p m → RemoveWithin room p
-remove-within (missed r why e) = omega arith
-remove-within (fewer b n l k) = omega arith
-remove-within (gone b l k) = omega arith
-
-pub remove-writes : {A : Type 0} (f : Row → A) {room t : ℕ} {rows : List Row} (zs : List A) {p : Removing} {m : Try (List Row)} → RemoveWay room t rows p m
-    → (length rows ≤ room → map f rows ≡ take (length rows) zs)
-    → moved_down (put_in zs p.put.from p.put.to (f (as_row p.put.row))) p.cut.from p.cut.next p.cut.to ≡ written f m zs
+-- a row that counts one less
+pub fewer-writes : {A : Type 0} (f : Row → A) {room t : ℕ} {rows : List Row} (zs : List A) {p : Put} {m : Try (List Row)} → RemoveWay room t rows (Ok (Removing.Fewer p)) m
+    → (length rows ≤ room → map f rows ≡ take (length rows) zs) → put_in zs p.from p.to (f (as_row p.row)) ≡ written f m zs
 unfolding written
-remove-writes f zs (missed r why e) k = refl
-remove-writes f {rows = rows} zs (fewer b n l i) k = write-counted f rows zs (k i) b _ l
-remove-writes f {rows = rows} zs (gone b l i) k = write-gone f rows zs (k i) b l
+fewer-writes f {rows = rows} zs (fewer b n l i) k = write-counted f rows zs (k i) b _ l
 
--- ---- the calls that write nothing
-module _ (room : ℕ) (rows : List Row) (t : ℕ) where
-  pub smallest-says : smallest_says (smallest_of (scanned (leb (length rows) room) t rows)) ≡ try_smallest room rows
-  unfolding scanned smallest_of sound_rows try_smallest must ◌>>◌ watermark
-  smallest-says = at (sound_rows room rows) rows
-    where
-      at : (d : Bool) (l : List Row) → smallest_says (smallest_of (pick d (found t l) (unsound_scan t))) ≡ (must d unsound >> go (elim l [ [] ↦ none | r ∷ rs ↦ some r.time ]))
-      at false l = refl
-      at true [] = refl
-      at true (r ∷ rs) = refl
+pub fewer-says : {room t : ℕ} {rows : List Row} {p : Put} {m : Try (List Row)} → RemoveWay room t rows (Ok (Removing.Fewer p)) m → go (length rows) ≡ sized m
+fewer-says {rows = rows} (fewer b n l k) =
+    let m : length rows ≡ b + suc (length rows - (b + 1)) = omega arith in
+    ap go (m ∙ sym (length-put b (b + 1) _ rows (omega arith) (omega arith)))
 
-  pub timestamps-says : timestamps_says (timestamps_of (scanned (leb (length rows) room) t rows) (length rows)) ≡ try_timestamps room rows
-  unfolding scanned timestamps_of sound_rows try_timestamps must ◌>>◌
-  timestamps-says = at (sound_rows room rows)
-    where
-      at : (d : Bool) → timestamps_says (timestamps_of (pick d (found t rows) (unsound_scan t)) (length rows)) ≡ (must d unsound >> go (length rows))
-      at false = refl
-      at true = refl
+pub fewer-within : {room t : ℕ} {rows : List Row} {p : Put} {m : Try (List Row)} → RemoveWay room t rows (Ok (Removing.Fewer p)) m → (p.from < p.to) × (p.to ≤ room)
+fewer-within (fewer b n l k) = (omega arith, omega arith)
 
-  pub mark-says : (clock : ℕ) → mark_says (mark_of (scanned (leb (length rows) room) t rows) clock) ≡ try_watermark room rows clock
-  unfolding scanned mark_of sound_rows try_watermark must ◌>>◌ watermark
-  mark-says clock = at (sound_rows room rows) rows
-    where
-      at : (d : Bool) (l : List Row) → mark_says (mark_of (pick d (found t l) (unsound_scan t)) clock) ≡ (must d unsound >> go (watermark clock l))
-      at false l = refl
-      at true [] = refl
-      at true (r ∷ rs) = refl
+-- a row that goes
+pub gone-writes : {A : Type 0} (f : Row → A) {room t : ℕ} {rows : List Row} (zs : List A) {b : ℕ} {m : Try (List Row)} → RemoveWay room t rows (Ok (Removing.Gone b)) m
+    → (length rows ≤ room → map f rows ≡ take (length rows) zs) → moved_down zs b (b + 1) (length rows) ≡ written f m zs
+unfolding written
+gone-writes f {rows = rows} zs (gone b l i) k = write-gone f rows zs (k i) b l
+
+pub gone-says : {room t : ℕ} {rows : List Row} {b : ℕ} {m : Try (List Row)} → RemoveWay room t rows (Ok (Removing.Gone b)) m → go (length rows - 1) ≡ sized m
+gone-says {rows = rows} (gone b l k) =
+    let m : length rows - 1 ≡ b + (length rows - (b + 1)) = omega arith in
+    ap go (m ∙ sym (length_cut b (b + 1) rows (omega arith) (omega arith)))
+
+pub gone-within : {room t : ℕ} {rows : List Row} {b : ℕ} {m : Try (List Row)} → RemoveWay room t rows (Ok (Removing.Gone b)) m → (b < length rows) × (length rows ≤ room)
+gone-within (gone b l k) = (l, k)

@@ -7,12 +7,12 @@ use lib.ListN.{length}
 use Rattle.paper.specs.Readers.{Row}
 use Rattle.paper.specs.Refusals.{Try, stop, go}
 use Rattle.paper.specs.Calls.{try_add_row, try_remove_row, try_smallest, try_timestamps}
-use Rattle.watermark.specs.Table.{rows_in, room_in, rows_of, added_says, removed_says, smallest_says, timestamps_says, number_of, written, Left, LeftRows}
+use Rattle.watermark.specs.Table.{rows_in, room_in, rows_of, added_says, removed_says, smallest_says, timestamps_says, number_of, written, Left, LeftRows, add_refused, remove_refused}
+use Rattle.std.specs.Prelude.{Option, Some, None, Result, Ok, Err}
 use Rattle.watermark.specs.declared.pass.Row as Lent
-use Rattle.watermark.specs.declared.reply.Added.{Added}
-use Rattle.watermark.specs.declared.reply.Removed.{Removed}
-use Rattle.watermark.specs.declared.reply.Smallest.{Smallest}
-use Rattle.watermark.specs.declared.reply.Timestamps.{Timestamps}
+use Rattle.watermark.specs.declared.reply.Unsound.{Unsound}
+use Rattle.watermark.specs.declared.reply.AddRefusal.{AddRefusal}
+use Rattle.watermark.specs.declared.reply.RemoveRefusal.{RemoveRefusal}
 use Rattle.watermark.proofs.Fronts.{read-in, read_of}
 
 -- how many rows there are after a call that said this
@@ -51,55 +51,55 @@ agree used ts cs ts' cs' rs rs' said said' (go new) a l m =
     }
 
 -- the same reply
-added-same : (r r' : Added) → added_says r ≡ added_says r' → r ≡ r'
-added-same (Added.Done n) (Added.Done m) e = let h : n ≡ m = cc in ap Added.Done h
-added-same (Added.Done n) Added.Unsound e = cc
-added-same (Added.Done n) Added.Full e = cc
-added-same (Added.Done n) Added.CountFull e = cc
-added-same Added.Unsound (Added.Done m) e = cc
-added-same Added.Unsound Added.Unsound e = refl
-added-same Added.Unsound Added.Full e = cc
-added-same Added.Unsound Added.CountFull e = cc
-added-same Added.Full (Added.Done m) e = cc
-added-same Added.Full Added.Unsound e = cc
-added-same Added.Full Added.Full e = refl
-added-same Added.Full Added.CountFull e = cc
-added-same Added.CountFull (Added.Done m) e = cc
-added-same Added.CountFull Added.Unsound e = cc
-added-same Added.CountFull Added.Full e = cc
-added-same Added.CountFull Added.CountFull e = refl
+added-same : (r r' : Result ℕ AddRefusal) → added_says r ≡ added_says r' → r ≡ r'
+added-same (Ok n) (Ok m) e = let h : n ≡ m = cc in ap Ok h
+added-same (Ok n) (Err w) e = cc
+added-same (Err w) (Ok m) e = cc
+added-same (Err w) (Err v) e = ap Err (at w v (let h : add_refused w ≡ add_refused v = cc in h))
+  where
+    at : (w v : AddRefusal) → add_refused w ≡ add_refused v → w ≡ v
+    at AddRefusal.Unsound AddRefusal.Unsound e = refl
+    at AddRefusal.Unsound AddRefusal.Full e = cc
+    at AddRefusal.Unsound AddRefusal.CountFull e = cc
+    at AddRefusal.Full AddRefusal.Unsound e = cc
+    at AddRefusal.Full AddRefusal.Full e = refl
+    at AddRefusal.Full AddRefusal.CountFull e = cc
+    at AddRefusal.CountFull AddRefusal.Unsound e = cc
+    at AddRefusal.CountFull AddRefusal.Full e = cc
+    at AddRefusal.CountFull AddRefusal.CountFull e = refl
 
-removed-same : (r r' : Removed) → removed_says r ≡ removed_says r' → r ≡ r'
-removed-same (Removed.Done n) (Removed.Done m) e = let h : n ≡ m = cc in ap Removed.Done h
-removed-same (Removed.Done n) Removed.Unsound e = cc
-removed-same (Removed.Done n) Removed.Missing e = cc
-removed-same Removed.Unsound (Removed.Done m) e = cc
-removed-same Removed.Unsound Removed.Unsound e = refl
-removed-same Removed.Unsound Removed.Missing e = cc
-removed-same Removed.Missing (Removed.Done m) e = cc
-removed-same Removed.Missing Removed.Unsound e = cc
-removed-same Removed.Missing Removed.Missing e = refl
+removed-same : (r r' : Result ℕ RemoveRefusal) → removed_says r ≡ removed_says r' → r ≡ r'
+removed-same (Ok n) (Ok m) e = let h : n ≡ m = cc in ap Ok h
+removed-same (Ok n) (Err w) e = cc
+removed-same (Err w) (Ok m) e = cc
+removed-same (Err w) (Err v) e = ap Err (at w v (let h : remove_refused w ≡ remove_refused v = cc in h))
+  where
+    at : (w v : RemoveRefusal) → remove_refused w ≡ remove_refused v → w ≡ v
+    at RemoveRefusal.Unsound RemoveRefusal.Unsound e = refl
+    at RemoveRefusal.Unsound RemoveRefusal.Missing e = cc
+    at RemoveRefusal.Missing RemoveRefusal.Unsound e = cc
+    at RemoveRefusal.Missing RemoveRefusal.Missing e = refl
 
-smallest-same : (r r' : Smallest) → smallest_says r ≡ smallest_says r' → r ≡ r'
-smallest-same (Smallest.At n) (Smallest.At m) e = let h : n ≡ m = cc in ap Smallest.At h
-smallest-same (Smallest.At n) Smallest.Nobody e = cc
-smallest-same (Smallest.At n) Smallest.Unsound e = cc
-smallest-same Smallest.Nobody (Smallest.At m) e = cc
-smallest-same Smallest.Nobody Smallest.Nobody e = refl
-smallest-same Smallest.Nobody Smallest.Unsound e = cc
-smallest-same Smallest.Unsound (Smallest.At m) e = cc
-smallest-same Smallest.Unsound Smallest.Nobody e = cc
-smallest-same Smallest.Unsound Smallest.Unsound e = refl
+smallest-same : (r r' : Result (Option ℕ) Unsound) → smallest_says r ≡ smallest_says r' → r ≡ r'
+smallest-same (Ok (Some n)) (Ok (Some m)) e = let h : n ≡ m = cc in ap (λ (k : ℕ). Ok (Some k)) h
+smallest-same (Ok (Some n)) (Ok None) e = cc
+smallest-same (Ok None) (Ok (Some m)) e = cc
+smallest-same (Ok None) (Ok None) e = refl
+smallest-same (Ok (Some n)) (Err u) e = cc
+smallest-same (Ok None) (Err u) e = cc
+smallest-same (Err u) (Ok (Some m)) e = cc
+smallest-same (Err u) (Ok None) e = cc
+smallest-same (Err u) (Err v) e = refl
 
-timestamps-same : (r r' : Timestamps) → timestamps_says r ≡ timestamps_says r' → r ≡ r'
-timestamps-same (Timestamps.Number n) (Timestamps.Number m) e = let h : n ≡ m = cc in ap Timestamps.Number h
-timestamps-same (Timestamps.Number n) Timestamps.Unsound e = cc
-timestamps-same Timestamps.Unsound (Timestamps.Number m) e = cc
-timestamps-same Timestamps.Unsound Timestamps.Unsound e = refl
+timestamps-same : (r r' : Result ℕ Unsound) → timestamps_says r ≡ timestamps_says r' → r ≡ r'
+timestamps-same (Ok n) (Ok m) e = let h : n ≡ m = cc in ap Ok h
+timestamps-same (Ok n) (Err u) e = cc
+timestamps-same (Err u) (Ok m) e = cc
+timestamps-same (Err u) (Err v) e = refl
 
 -- each premise after the first is what the function's contract ensures
 module _ (used : ℕ) (ts cs : List ℕ) (rs : List Lent.Row) (a : Alike used ts cs rs) where
-  pub add-alike : (t : ℕ) (r r' : Added) (ts' cs' : List ℕ) (rs' : List Lent.Row)
+  pub add-alike : (t : ℕ) (r r' : Result ℕ AddRefusal) (ts' cs' : List ℕ) (rs' : List Lent.Row)
       → Left (added_says r) (try_add_row (room_in ts cs) (rows_in used ts cs) t) ts cs ts' cs'
       → LeftRows (added_says r') (try_add_row (length rs) (rows_of used rs) t) rs rs'
       → (r ≡ r') × Agree used (added_says r) (added_says r') ts' cs' rs'
@@ -108,7 +108,7 @@ module _ (used : ℕ) (ts cs : List ℕ) (rs : List Lent.Row) (a : Alike used ts
       let g = agree used ts cs ts' cs' rs rs' (added_says r) (added_says r') (try_add_row (length rs) (rows_of used rs) t) a l' m in
       (added-same r r' g.reply, g)
 
-  pub remove-alike : (t : ℕ) (r r' : Removed) (ts' cs' : List ℕ) (rs' : List Lent.Row)
+  pub remove-alike : (t : ℕ) (r r' : Result ℕ RemoveRefusal) (ts' cs' : List ℕ) (rs' : List Lent.Row)
       → Left (removed_says r) (try_remove_row (room_in ts cs) (rows_in used ts cs) t) ts cs ts' cs'
       → LeftRows (removed_says r') (try_remove_row (length rs) (rows_of used rs) t) rs rs'
       → (r ≡ r') × Agree used (removed_says r) (removed_says r') ts' cs' rs'
@@ -117,8 +117,8 @@ module _ (used : ℕ) (ts cs : List ℕ) (rs : List Lent.Row) (a : Alike used ts
       let g = agree used ts cs ts' cs' rs rs' (removed_says r) (removed_says r') (try_remove_row (length rs) (rows_of used rs) t) a l' m in
       (removed-same r r' g.reply, g)
 
-  pub smallest-alike : (r r' : Smallest) → smallest_says r ≡ try_smallest (room_in ts cs) (rows_in used ts cs) → smallest_says r' ≡ try_smallest (length rs) (rows_of used rs) → r ≡ r'
+  pub smallest-alike : (r r' : Result (Option ℕ) Unsound) → smallest_says r ≡ try_smallest (room_in ts cs) (rows_in used ts cs) → smallest_says r' ≡ try_smallest (length rs) (rows_of used rs) → r ≡ r'
   smallest-alike r r' e g = smallest-same r r' (e ∙ ap₂ try_smallest a.room a.rows ∙ sym g)
 
-  pub timestamps-alike : (r r' : Timestamps) → timestamps_says r ≡ try_timestamps (room_in ts cs) (rows_in used ts cs) → timestamps_says r' ≡ try_timestamps (length rs) (rows_of used rs) → r ≡ r'
+  pub timestamps-alike : (r r' : Result ℕ Unsound) → timestamps_says r ≡ try_timestamps (room_in ts cs) (rows_in used ts cs) → timestamps_says r' ≡ try_timestamps (length rs) (rows_of used rs) → r ≡ r'
   timestamps-alike r r' e g = timestamps-same r r' (e ∙ ap₂ try_timestamps a.room a.rows ∙ sym g)

@@ -1,36 +1,32 @@
 -- What the functions of `pass` do, a row or a call at a time. No promise rests on these definitions: the laws tie them to the paper's calls.
 -- Assumes nothing.
-use Rattle.std.specs.Prelude.{ℕ, ◌+◌, ◌-◌, Bool, true, false, not, ◌&&◌, List, [], ◌∷◌, length, drop, leb, ltb, eqb}
+use Rattle.std.specs.Prelude.{ℕ, ◌+◌, ◌-◌, Bool, true, false, ◌&&◌, List, [], ◌∷◌, length, drop, leb, ltb, eqb, Option, Some, None, Result, Ok, Err}
 use Rattle.std.proofs.Math.Seq.{paste}
-use Rattle.paper.specs.Lists.{all, keep, is_empty, rises}
-use Rattle.paper.specs.Readers.{Row, cmp_row, readers_at, watermark}
+use Rattle.paper.specs.Lists.{all, keep, rises}
+use Rattle.paper.specs.Readers.{Row, cmp_row, readers_at}
 use Rattle.paper.specs.Settings.{most_number}
-use Rattle.watermark.specs.Table.{no_row}
 use Rattle.watermark.specs.declared.pass.Row as Lent
 use Rattle.watermark.specs.declared.pass.Scan.{Scan}
 use Rattle.watermark.specs.declared.pass.Put.{Put}
-use Rattle.watermark.specs.declared.pass.Cut.{Cut}
-use Rattle.watermark.specs.declared.pass.Adding.{Adding}
 use Rattle.watermark.specs.declared.pass.Removing.{Removing}
-use Rattle.watermark.specs.declared.reply.Added.{Added}
-use Rattle.watermark.specs.declared.reply.Removed.{Removed}
-use Rattle.watermark.specs.declared.reply.Smallest.{Smallest}
-use Rattle.watermark.specs.declared.reply.Timestamps.{Timestamps}
-use Rattle.watermark.specs.declared.reply.Mark.{Mark}
+use Rattle.watermark.specs.declared.reply.Unsound.{Unsound}
+use Rattle.watermark.specs.declared.reply.AddRefusal.{AddRefusal}
+use Rattle.watermark.specs.declared.reply.RemoveRefusal.{RemoveRefusal}
 
 abbrev pub pick : {A : Type 0} → Bool → A → A → A
 pick true a b = a
 pick false a b = b
 
 -- ---- what one pass finds
--- nothing else is told of a table that is not sound
-abbrev pub unsound_scan : ℕ → Scan
-unsound_scan t = record { time = t; sound = false; any = false; last = 0; least = 0; below = 0; upto = 0; count = 0 }
-
--- the last timestamp; t where there is no row
+-- the last timestamp of r and the rows behind it
 abbrev pub last_from : ℕ → List Row → ℕ
 last_from t [] = t
 last_from t (r ∷ rs) = last_from r.time rs
+
+-- the last timestamp, if there is one
+abbrev pub last_of : List Row → Option ℕ
+last_of [] = None
+last_of (r ∷ rs) = Some (last_from r.time rs)
 
 -- how many rows stand below t, and how many up to it
 unfoldable pub below : ℕ → List Row → ℕ
@@ -39,47 +35,37 @@ below t rows = length (keep (λ r. ltb r.time t) rows)
 unfoldable pub upto : ℕ → List Row → ℕ
 upto t rows = length (keep (λ r. leb r.time t) rows)
 
+-- the readers at t, if it has a row
+unfoldable pub count_at : ℕ → List Row → Option ℕ
+count_at t rows = pick (ltb (below t rows) (upto t rows)) (Some (readers_at t rows)) None
+
 abbrev pub found : ℕ → List Row → Scan
-found t rows =
-    record {
-      time = t;
-      sound = true;
-      any = not (is_empty rows);
-      last = last_from 0 rows;
-      least = watermark 0 rows;
-      below = below t rows;
-      upto = upto t rows;
-      count = readers_at t rows;
-    }
+found t rows = record { time = t; last = last_of rows; below = below t rows; count = count_at t rows }
+
+abbrev pub unsound_table : Unsound
+unsound_table = record {}
 
 -- what a pass for t knows after these rows, where the table ends within the room or doesn't
-unfoldable pub scanned : Bool → ℕ → List Row → Scan
-scanned fits t rows = pick (fits && (rises cmp_row rows && all (λ r. ltb 0 r.count) rows)) (found t rows) (unsound_scan t)
-
-unfoldable pub within_of : ℕ → ℕ → ℕ
-within_of used room = pick (leb used room) used 0
+unfoldable pub scanned : Bool → ℕ → List Row → Result Scan Unsound
+scanned fits t rows = pick (fits && (rises cmp_row rows && all (λ r. ltb 0 r.count) rows)) (Ok (found t rows)) (Err unsound_table)
 
 -- ---- a row more
-unfoldable pub passed_of : Scan → Lent.Row → ℕ → Scan
-passed_of s r least =
+-- the timestamp t may come behind the last
+abbrev pub follows : Option ℕ → ℕ → Bool
+follows None t = true
+follows (Some last) t = ltb last t
+
+abbrev pub passed_of : Scan → Lent.Row → Scan
+passed_of s r =
     record {
       time = s.time;
-      sound = true;
-      any = true;
-      last = r.time;
-      least = least;
+      last = Some r.time;
       below = pick (ltb r.time s.time) (s.below + 1) s.below;
-      upto = pick (leb r.time s.time) (s.upto + 1) s.upto;
-      count = pick (eqb r.time s.time) r.count s.count;
+      count = pick (eqb r.time s.time) (Some r.count) s.count;
     }
 
-unfoldable pub see_of : Scan → Lent.Row → Scan
-see_of s r =
-    pick s.sound
-    (pick (ltb 0 r.count)
-    (pick s.any (pick (ltb s.last r.time) (passed_of s r s.least) (unsound_scan s.time)) (passed_of s r r.time))
-    (unsound_scan s.time))
-    s
+unfoldable pub see_of : Scan → Lent.Row → Result Scan Unsound
+see_of s r = pick (ltb 0 r.count && follows s.last r.time) (Ok (passed_of s r)) (Err unsound_table)
 
 -- ---- what is written to a slice
 -- x is put in at `from`, and what stood from there to before `to` goes one further
@@ -91,44 +77,28 @@ abbrev pub moved_down : {A : Type 0} → List A → ℕ → ℕ → ℕ → List
 moved_down zs from next to = paste zs from (drop next zs) (to - next)
 
 -- ---- what a call then does
-abbrev pub no_put : Put
-no_put = record { from = 0; to = 0; row = no_row }
-
-abbrev pub no_cut : Cut
-no_cut = record { from = 0; next = 0; to = 0 }
-
 abbrev pub put_at : ℕ → ℕ → ℕ → ℕ → Put
 put_at from to t n = record { from = from; to = to; row = record { time = t; count = n } }
 
-abbrev pub refuse_adding : Added → Adding
-refuse_adding r = record { reply = r; put = no_put }
+abbrev pub counted_more : Scan → ℕ → Result Put AddRefusal
+counted_more s n = pick (ltb n most_number) (Ok (put_at s.below (s.below + 1) s.time (n + 1))) (Err AddRefusal.CountFull)
 
-unfoldable pub adding_of : Scan → ℕ → ℕ → Adding
-adding_of s used room =
-    pick s.sound
-    (pick (ltb s.below s.upto)
-    (pick (ltb s.count most_number) (record { reply = Added.Done used; put = put_at s.below s.upto s.time (s.count + 1) }) (refuse_adding Added.CountFull))
-    (pick (ltb used room) (record { reply = Added.Done (used + 1); put = put_at s.below (used + 1) s.time 1 }) (refuse_adding Added.Full)))
-    (refuse_adding Added.Unsound)
+abbrev pub rowed_more : Scan → ℕ → ℕ → Result Put AddRefusal
+rowed_more s used room = pick (ltb used room) (Ok (put_at s.below (used + 1) s.time 1)) (Err AddRefusal.Full)
 
-abbrev pub refuse_removing : Removed → Removing
-refuse_removing r = record { reply = r; put = no_put; cut = no_cut }
+abbrev pub adding : Scan → ℕ → ℕ → Option ℕ → Result Put AddRefusal
+adding s used room (Some n) = counted_more s n
+adding s used room None = rowed_more s used room
 
-unfoldable pub removing_of : Scan → ℕ → Removing
-removing_of s used =
-    pick s.sound
-    (pick (ltb s.below s.upto)
-    (pick (leb s.count 1)
-    (record { reply = Removed.Done (used - 1); put = no_put; cut = record { from = s.below; next = s.upto; to = used } })
-    (record { reply = Removed.Done used; put = put_at s.below s.upto s.time (s.count - 1); cut = no_cut }))
-    (refuse_removing Removed.Missing))
-    (refuse_removing Removed.Unsound)
+unfoldable pub adding_of : Scan → ℕ → ℕ → Result Put AddRefusal
+adding_of s used room = adding s used room s.count
 
-unfoldable pub smallest_of : Scan → Smallest
-smallest_of s = pick s.sound (pick s.any (Smallest.At s.least) Smallest.Nobody) Smallest.Unsound
+abbrev pub counted_less : Scan → ℕ → Removing
+counted_less s n = pick (leb n 1) (Removing.Gone s.below) (Removing.Fewer (put_at s.below (s.below + 1) s.time (n - 1)))
 
-unfoldable pub timestamps_of : Scan → ℕ → Timestamps
-timestamps_of s used = pick s.sound (Timestamps.Number used) Timestamps.Unsound
+abbrev pub removing : Scan → Option ℕ → Result Removing RemoveRefusal
+removing s (Some n) = Ok (counted_less s n)
+removing s None = Err RemoveRefusal.Missing
 
-unfoldable pub mark_of : Scan → ℕ → Mark
-mark_of s clock = pick s.sound (pick s.any (Mark.At s.least) (Mark.At clock)) Mark.Unsound
+unfoldable pub removing_of : Scan → Result Removing RemoveRefusal
+removing_of s = removing s s.count

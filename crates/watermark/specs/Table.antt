@@ -1,15 +1,14 @@
 -- The reader table as lent slices hold it: which rows they hold, what a call leaves in them, and what each reply says in the paper.
 -- Assumes nothing.
-use Rattle.std.specs.Prelude.{ℕ, zero, suc, min, ◌≡◌, List, [], ◌∷◌, ◌++◌, map, length, drop, get_or}
+use Rattle.std.specs.Prelude.{ℕ, zero, suc, min, ◌≡◌, List, [], ◌∷◌, ◌++◌, map, length, drop, get_or, Result, Ok, Err}
+use Rattle.std.specs.Prelude as std
 use Rattle.std.proofs.Math.Option.{Option, none, some}
 use Rattle.paper.specs.Readers.{Row, row, sound_rows, watermark}
-use Rattle.paper.specs.Refusals.{unsound, no_room, reader_table, counter_full, no_reader, refusal_number, Try, stop, go, must, ◌>>◌}
+use Rattle.paper.specs.Refusals.{Refusal, unsound, no_room, reader_table, counter_full, no_reader, refusal_number, Try, stop, go, must, ◌>>◌}
 use Rattle.watermark.specs.declared.pass.Row as Lent
-use Rattle.watermark.specs.declared.reply.Added.{Added}
-use Rattle.watermark.specs.declared.reply.Removed.{Removed}
-use Rattle.watermark.specs.declared.reply.Smallest.{Smallest}
-use Rattle.watermark.specs.declared.reply.Timestamps.{Timestamps}
-use Rattle.watermark.specs.declared.reply.Mark.{Mark}
+use Rattle.watermark.specs.declared.reply.Unsound.{Unsound}
+use Rattle.watermark.specs.declared.reply.AddRefusal.{AddRefusal}
+use Rattle.watermark.specs.declared.reply.RemoveRefusal.{RemoveRefusal}
 
 -- what f gives at 0, at 1, and so on: n of them
 unfoldable pub up_to : {A : Type 0} → ℕ → (ℕ → A) → List A
@@ -39,29 +38,35 @@ abbrev pub rows_of : ℕ → List Lent.Row → List Row
 rows_of used rows = up_to used (λ i. as_row (get_or rows i no_row))
 
 -- ---- what the replies say, and their numbers
-abbrev pub added_says : Added → Try ℕ
-added_says (Added.Done used) = go used
-added_says Added.Unsound = stop unsound
-added_says Added.Full = stop (no_room reader_table)
-added_says Added.CountFull = stop counter_full
+abbrev pub add_refused : AddRefusal → Refusal
+add_refused AddRefusal.Unsound = unsound
+add_refused AddRefusal.Full = no_room reader_table
+add_refused AddRefusal.CountFull = counter_full
 
-abbrev pub removed_says : Removed → Try ℕ
-removed_says (Removed.Done used) = go used
-removed_says Removed.Unsound = stop unsound
-removed_says Removed.Missing = stop no_reader
+abbrev pub remove_refused : RemoveRefusal → Refusal
+remove_refused RemoveRefusal.Unsound = unsound
+remove_refused RemoveRefusal.Missing = no_reader
 
-abbrev pub smallest_says : Smallest → Try (Option ℕ)
-smallest_says (Smallest.At time) = go (some time)
-smallest_says Smallest.Nobody = go none
-smallest_says Smallest.Unsound = stop unsound
+abbrev pub added_says : Result ℕ AddRefusal → Try ℕ
+added_says (Ok used) = go used
+added_says (Err why) = stop (add_refused why)
 
-abbrev pub timestamps_says : Timestamps → Try ℕ
-timestamps_says (Timestamps.Number count) = go count
-timestamps_says Timestamps.Unsound = stop unsound
+abbrev pub removed_says : Result ℕ RemoveRefusal → Try ℕ
+removed_says (Ok used) = go used
+removed_says (Err why) = stop (remove_refused why)
 
-abbrev pub mark_says : Mark → Try ℕ
-mark_says (Mark.At time) = go time
-mark_says Mark.Unsound = stop unsound
+abbrev pub smallest_says : Result (std.Option ℕ) Unsound → Try (Option ℕ)
+smallest_says (Ok (std.Some time)) = go (some time)
+smallest_says (Ok std.None) = go none
+smallest_says (Err why) = stop unsound
+
+abbrev pub timestamps_says : Result ℕ Unsound → Try ℕ
+timestamps_says (Ok count) = go count
+timestamps_says (Err why) = stop unsound
+
+abbrev pub mark_says : Result ℕ Unsound → Try ℕ
+mark_says (Ok time) = go time
+mark_says (Err why) = stop unsound
 
 -- the table 'numbers returned'; 0 is 'done'
 abbrev pub number_of : {A : Type 0} → Try A → ℕ

@@ -1,44 +1,40 @@
-// What the calls of the reader table answer. `specs/Table.antt` gives each case what it says in the paper, and so its number.
-#[derive(Clone, Copy)]
-pub enum Added {
-    // 0: there are `used` rows now.
-    Done { used: usize },
-    // 9
+// What the calls of the reader table refuse. `specs/Table.antt` gives each refusal what it is in the paper, and so its number.
+ghost use Rattle.std.specs.Prelude.{◌≡◌};
+ghost use Rattle.watermark.specs.declared.reply.AddRefusal.TheVariants as add;
+ghost use Rattle.watermark.specs.declared.reply.RemoveRefusal.TheVariants as remove;
+
+// The table is not sound: timestamps that do not strictly rise, a count of 0, rows past the end.
+#[derive(Clone, Copy, Debug, PartialEq, Eq)]
+pub struct Unsound;
+
+#[derive(Clone, Copy, Debug, PartialEq, Eq)]
+pub enum AddRefusal {
     Unsound,
-    // 5
+    // There is no room for a row more.
     Full,
-    // 7
+    // The row counts as many readers as it can.
     CountFull,
 }
 
-#[derive(Clone, Copy)]
-pub enum Removed {
-    // 0: there are `used` rows now.
-    Done { used: usize },
-    // 9
+impl From<Unsound> for AddRefusal {
+    ghost from_gives = { λ _ r. r ≡ add.Unsound };
+
+    fn from(_u: Unsound) -> Self {
+        AddRefusal::Unsound
+    }
+}
+
+#[derive(Clone, Copy, Debug, PartialEq, Eq)]
+pub enum RemoveRefusal {
     Unsound,
-    // 8
+    // Nobody reads there.
     Missing,
 }
 
-#[derive(Clone, Copy)]
-pub enum Smallest {
-    At { time: u64 },
-    Nobody,
-    // 9
-    Unsound,
-}
+impl From<Unsound> for RemoveRefusal {
+    ghost from_gives = { λ _ r. r ≡ remove.Unsound };
 
-#[derive(Clone, Copy)]
-pub enum Timestamps {
-    Number { count: usize },
-    // 9
-    Unsound,
-}
-
-#[derive(Clone, Copy)]
-pub enum Mark {
-    At { time: u64 },
-    // 9
-    Unsound,
+    fn from(_u: Unsound) -> Self {
+        RemoveRefusal::Unsound
+    }
 }

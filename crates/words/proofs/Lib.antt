@@ -1,7 +1,8 @@
-pub mod Pieces
-pub mod Lines
-pub mod Handles
+-- Laws of the words of a script.
 pub mod Letters
+pub mod Handles
+pub mod Pieces
+pub mod Ends
 pub mod Calls
-pub mod Reading
+pub mod ByLine
 pub mod Same

@@ -1,116 +1,56 @@
--- The pieces between separators, the first of them by the place of its end.
+-- The pieces between separators, as the library's `split` gives them, one after the other.
 -- Assumes nothing.
-use native.Mathlib.Omega.{arith}
-use native.Mathlib.Numerals.{add-one}
-use mathlib.Core.Path.{◌≡◌, refl, sym, ap, ◌∙◌}
-use mathlib.Core.Bool.{Bool, true, false, cond}
+use mathlib.Core.Path.{◌≡◌, refl, sym, ap}
+use mathlib.Core.Bool.{Bool, true, false}
 use mathlib.Core.List.{List, [], ◌∷◌}
-use Prim.Native.Nat.{ℕ, suc, ◌+◌, ◌-◌, ◌≤◌, ◌<◌}
-use lib.ListN.{length, take, drop, get_or, length-drop, drop_of_length-le}
-use lib.Seq.{drop-cons, take_all, drop-drop}
+use Prim.Native.Nat.{ℕ}
 use lib.Dec.{eqb}
-use borrow.Author.Tests.{eq-eqb, ne_eqb}
-use Rattle.paper.specs.Lists.{is_empty}
+use Rattle.std.specs.Prelude.{Option, Some, None, is_some}
+use Rattle.std.specs.List.{slice_split, onto_first}
+use Rattle.std.specs.Fn.{CalledAt}
+use Rattle.std.specs.declared.slice.Split.{Split}
+use Rattle.std.specs.Slice.Iter.{split_steps, split_rest, split_done, split_callee}
+use denote.Param.Members.{Mut}
+use denote.Ref.{Bor}
+use Rattle.std.proofs.lemmas.Iterator.{YieldsList}
+use Rattle.std.proofs.lemmas.Iterator.Splits.{YieldsList-from_slice_split}
 use Rattle.paper.specs.Keys.{Bytes}
 use Rattle.paper.specs.Replay.{prepended, pieces}
-use Rattle.raw.specs.Bytes.{part}
-use Rattle.words.specs.Fields.{up_to}
 
--- ---- the bytes before the first separator
-pub up_to-short : (sep : ℕ) (s : Bytes) → length (up_to sep s) ≤ length s
-unfolding up_to
-up_to-short sep [] = omega arith
-up_to-short sep (b ∷ bs) = go (eqb b sep) (up_to-short sep bs)
-  where
-    go : (t : Bool) → length (up_to sep bs) ≤ length bs → length (cond t [] (b ∷ up_to sep bs)) ≤ suc (length bs)
-    go true h = omega arith
-    go false h = omega arith
+onto-is : (b : ℕ) (ps : List Bytes) → onto_first b ps ≡ prepended b ps
+onto-is b [] = refl
+onto-is b (p ∷ ps) = refl
 
-pub up_to-front : (sep : ℕ) (s : Bytes) → take (length (up_to sep s)) s ≡ up_to sep s
-unfolding up_to
-up_to-front sep [] = refl
-up_to-front sep (b ∷ bs) = go (eqb b sep) (up_to-front sep bs)
-  where
-    go : (t : Bool) → take (length (up_to sep bs)) bs ≡ up_to sep bs → take (length (cond t [] (b ∷ up_to sep bs))) (b ∷ bs) ≡ cond t [] (b ∷ up_to sep bs)
-    go true e = refl
-    go false e = ap (λ (x : Bytes). b ∷ x) e
+-- the library's parts are the paper's pieces
+pub pieces-are : (sep : ℕ) (s : Bytes) → slice_split (λ b. eqb b sep) s ≡ pieces sep s
+unfolding pieces
+pieces-are sep [] = refl
+pieces-are sep (b ∷ bs) = rw (pieces-are sep bs, onto-is b (pieces sep bs))
 
-pub up_to-whole : (sep : ℕ) (s : Bytes) → length s ≤ length (up_to sep s) → up_to sep s ≡ s
-up_to-whole sep s h = sym (up_to-front sep s) ∙ take_all (length (up_to sep s)) s h
+-- ---- a call of `next` on an iterator that gives a known list
+module _ {S A B : Type 0} {steps : S → Option A → S → Type 0} {v : A → B} where
+  -- it gave an item, which is the first of the list
+  pub took : (all : List B) {s : S} → YieldsList steps v s all → (x : A) (t : S) → steps s (Some x) t → (rest : List B) × (all ≡ v x ∷ rest) × YieldsList steps v t rest
+  took [] y x t h = absurd (y.runs x t h)
+  took (b ∷ bs) y x t h = let w = y.runs.1 x t h in (bs, ap (λ c. c ∷ bs) (sym w.0), record { runs = w.1 })
 
--- the walk to its end m: at index i, no separator passed
-module _ (m sep : ℕ) (s : Bytes) (i : ℕ) (e : m ≡ i + length (up_to sep (drop i s))) where
-  pub end-hit : i < length s → get_or s i 0 ≡ sep → i ≡ m
-  unfolding up_to
-  end-hit h q = let z : length (up_to sep (drop i s)) ≡ 0 = rw (drop-cons s i 0 h, eq-eqb (get_or s i 0) sep q) in omega arith
+  -- it gave none: the list is empty
+  pub ended : (all : List B) {s : S} → YieldsList steps v s all → (t : S) → steps s None t → all ≡ []
+  ended [] y t h = refl
+  ended (b ∷ bs) y t h = absurd (y.runs.0 t h)
 
-  pub end_on : i < length s → (get_or s i 0 ≡ sep → ⊥) → m ≡ i + 1 + length (up_to sep (drop (i + 1) s))
-  unfolding up_to
-  end_on h n =
-      let z : length (up_to sep (drop i s)) ≡ suc (length (up_to sep (drop (i + 1) s))) = rw (drop-cons s i 0 h, ne_eqb (get_or s i 0) sep n, add-one) in
-      omega arith
+  -- whether it gave one is tested
+  pub took-some : (all : List B) {s : S} → YieldsList steps v s all → (r : Option A) (t : S) → steps s r t → is_some r ≡ true → (x : A) × (rest : List B) × (all ≡ v x ∷ rest)
+  took-some all y None t h e = cc
+  took-some all y (Some x) t h e = let w = took all y x t h in (x, w.0, w.1)
 
-  pub end-past : length s ≤ i → i ≡ m
-  unfolding up_to
-  end-past h = let z : length (up_to sep (drop i s)) ≡ 0 = rw (drop_of_length-le s h) in omega arith
+  pub ended-none : (all : List B) {s : S} → YieldsList steps v s all → (r : Option A) (t : S) → steps s r t → is_some r ≡ false → all ≡ []
+  ended-none all y None t h e = ended all y t h
+  ended-none all y (Some x) t h e = cc
 
--- ---- the pieces
--- the first piece is what stands before the first separator
-pub pieces-first : (sep : ℕ) (s : Bytes) → (ps : List Bytes) × (pieces sep s ≡ up_to sep s ∷ ps)
-unfolding pieces up_to
-pieces-first sep [] = ([], refl)
-pieces-first sep (b ∷ bs) = go (eqb b sep) (pieces-first sep bs)
-  where
-    go : (t : Bool) → ((ps : List Bytes) × (pieces sep bs ≡ up_to sep bs ∷ ps))
-        → (ps : List Bytes) × (cond t ([] ∷ pieces sep bs) (prepended b (pieces sep bs)) ≡ cond t [] (b ∷ up_to sep bs) ∷ ps)
-    go true h = (pieces sep bs, refl)
-    go false h = (h.0, ap (prepended b) h.1)
-
--- there is no separator
-pub pieces-only : (sep : ℕ) (s : Bytes) → length s ≤ length (up_to sep s) → pieces sep s ≡ up_to sep s ∷ []
-unfolding pieces up_to
-pieces-only sep [] h = refl
-pieces-only sep (b ∷ bs) h = go (eqb b sep) (pieces-only sep bs) h
-  where
-    go : (t : Bool) → (length bs ≤ length (up_to sep bs) → pieces sep bs ≡ up_to sep bs ∷ []) → suc (length bs) ≤ length (cond t [] (b ∷ up_to sep bs))
-        → cond t ([] ∷ pieces sep bs) (prepended b (pieces sep bs)) ≡ cond t [] (b ∷ up_to sep bs) ∷ []
-    go true ih h = absurd (omega arith)
-    go false ih h = ap (prepended b) (ih (omega arith))
-
-pub pieces-last : (sep : ℕ) (s : Bytes) → length (up_to sep s) ≡ length s → pieces sep s ≡ s ∷ []
-pieces-last sep s e =
-    let h : length s ≤ length (up_to sep s) = omega arith in
-    pieces-only sep s h ∙ ap (λ (x : Bytes). x ∷ []) (up_to-whole sep s h)
-
--- there is one
-pub pieces_more : (sep : ℕ) (s : Bytes) → length (up_to sep s) < length s → pieces sep s ≡ up_to sep s ∷ pieces sep (drop (suc (length (up_to sep s))) s)
-unfolding pieces up_to
-pieces_more sep [] h = absurd (omega arith)
-pieces_more sep (b ∷ bs) h = go (eqb b sep) (pieces_more sep bs) h
-  where
-    go : (t : Bool) → (length (up_to sep bs) < length bs → pieces sep bs ≡ up_to sep bs ∷ pieces sep (drop (suc (length (up_to sep bs))) bs))
-        → length (cond t [] (b ∷ up_to sep bs)) < suc (length bs)
-        → cond t ([] ∷ pieces sep bs) (prepended b (pieces sep bs)) ≡ cond t [] (b ∷ up_to sep bs) ∷ pieces sep (drop (suc (length (cond t [] (b ∷ up_to sep bs)))) (b ∷ bs))
-    go true ih h = refl
-    go false ih h = ap (prepended b) (ih (omega arith))
-
-pub pieces-some : (sep : ℕ) (s : Bytes) → is_empty (pieces sep s) ≡ false
-pieces-some sep s = ap is_empty (pieces-first sep s).1
-
--- ---- the pieces from index at on, where e is the end of the first
-module _ (sep : ℕ) (s : Bytes) (at e : ℕ) (q : e ≡ at + length (up_to sep (drop at s))) where
-  pub from-part : part s at (e - at) ≡ up_to sep (drop at s)
-  from-part = let p : e - at ≡ length (up_to sep (drop at s)) = omega arith in ap (λ (n : ℕ). part s at n) p ∙ up_to-front sep (drop at s)
-
-  pub from_last : length s ≤ e → pieces sep (drop at s) ≡ drop at s ∷ []
-  from_last h =
-      let k : length (drop at s) ≡ length s - at = length-drop at s in
-      let l : length (up_to sep (drop at s)) ≤ length (drop at s) = up_to-short sep (drop at s) in
-      pieces-last sep (drop at s) (omega arith)
-
-  pub from_more : e < length s → pieces sep (drop at s) ≡ up_to sep (drop at s) ∷ pieces sep (drop (suc e) s)
-  from_more h =
-      let k : length (drop at s) ≡ length s - at = length-drop at s in
-      let f : at + suc (length (up_to sep (drop at s))) ≡ suc e = omega arith in
-      pieces_more sep (drop at s) (omega arith)
-      ∙ ap (λ (x : Bytes). up_to sep (drop at s) ∷ pieces sep x) (drop-drop (suc (length (up_to sep (drop at s)))) at s ∙ ap (λ (i : ℕ). drop i s) f)
+-- the first field of a line that is cut at each space
+pub first-field : {F : Type 0} {g : Mut F (Bor ℕ × Unit {0}) Bool} {f : F} (l : Bytes) (s : Split ℕ F) (x : Bor (List ℕ)) (t : Split ℕ F) → split_steps g s (Some x) t
+    → split_rest s ≡ l → split_done s ≡ false → split_callee s ≡ f → ((y : ℕ) (b : Bool) (q : F) → CalledAt g f y b q → (q ≡ f) × (b ≡ eqb y 32))
+    → (rest : List Bytes) × (slice_split (λ b. eqb b 32) l ≡ x.now ∷ rest) × YieldsList (split_steps g) (λ y. y.now) t rest
+first-field {g = g} l s x t h r d c e =
+    took (slice_split (λ b. eqb b 32) l) (YieldsList-from_slice_split {s = s} g (λ b. eqb b 32) l r d c e) x t h

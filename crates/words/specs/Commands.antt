@@ -1,48 +1,41 @@
--- The call that a command is, of the line that it was read from.
+-- The call that a command is.
 -- Assumes nothing.
-use Rattle.std.specs.Prelude.{suc, ◌≤◌, ◌-◌, ◌≡◌, List, length, drop}
-use Rattle.std.proofs.Math.Option.{Option, none, some}
+use Rattle.std.specs.Prelude.{ℕ, ◌&&◌, ◌||◌, List, [], ◌∷◌, eqb, Option, Some, None}
+use Rattle.std.proofs.Math.Option as maths
 use Rattle.paper.specs.Keys.{Bytes}
 use Rattle.paper.specs.Bounds.{excluded, unbounded}
 use Rattle.paper.specs.Settings.{longest}
 use Rattle.paper.specs.Calls.{Call}
-use Rattle.paper.specs.Replay.{line_call}
-use Rattle.raw.specs.Bytes.{part}
-use Rattle.words.specs.Fields.{up_to}
+use Rattle.paper.specs.Replay.{is, is_word, given, either, from_of}
 use Rattle.words.specs.declared.Command.{Command}
 use Rattle.words.specs.declared.Command.TheVariants as command
 
--- A key that is the last field is the rest of the line from its place; before a value it ends at the space in front of that.
-unfoldable pub call_of : Bytes → Command → Option Call
-call_of l command.Begin = some Call.begin
-call_of l (command.Get h k) = some (Call.get h (drop k l) longest)
-call_of l (command.Put h k v) = some (Call.put h (part l k (v - 1 - k)) (drop v l))
-call_of l (command.Delete h k) = some (Call.delete h (drop k l))
-call_of l (command.First h) = some (Call.scan h unbounded unbounded longest longest)
-call_of l (command.Above h k) = some (Call.scan h (excluded (drop k l)) unbounded longest longest)
-call_of l (command.Commit h) = some (Call.commit h)
-call_of l (command.End h) = some (Call.end h)
-call_of l command.Freeze = some Call.freeze
-call_of l command.Unknown = none
+abbrev pub call_is : Command → Call
+call_is command.Begin = Call.begin
+call_is (command.Get h k) = Call.get h k.now longest
+call_is (command.Put h k v) = Call.put h k.now v.now
+call_is (command.Delete h k) = Call.delete h k.now
+call_is (command.First h) = Call.scan h unbounded unbounded longest longest
+call_is (command.Above h k) = Call.scan h (excluded k.now) unbounded longest longest
+call_is (command.Commit h) = Call.commit h
+call_is (command.End h) = Call.end h
+call_is command.Freeze = Call.freeze
 
--- the places lie within the line
-abbrev pub Within : Bytes → Command → Type 0
-Within l command.Begin = Unit
-Within l (command.Get h k) = k ≤ length l
-Within l (command.Put h k v) = (suc k ≤ v) × (v ≤ length l)
-Within l (command.Delete h k) = k ≤ length l
-Within l (command.First h) = Unit
-Within l (command.Above h k) = k ≤ length l
-Within l (command.Commit h) = Unit
-Within l (command.End h) = Unit
-Within l command.Freeze = Unit
-Within l command.Unknown = Unit
+abbrev pub call_of : Option Command → maths.Option Call
+call_of (Some c) = maths.some (call_is c)
+call_of None = maths.none
 
 -- ---- what the private functions say
--- the command is what line_call says of the fields, and its places lie within the line
-abbrev pub Read : Bytes → List Bytes → Command → Type 0
-Read l fs c = (call_of l c ≡ line_call fs) × Within l c
+-- the call of a line that is a letter alone
+abbrev pub lone_call : ℕ → maths.Option Call
+lone_call f = either (given (eqb f 98) Call.begin) (given (eqb f 122) Call.freeze)
 
--- the second field of a line whose first field is one byte
-abbrev pub second : Bytes → Bytes
-second l = up_to 32 (drop 2 l)
+-- the call of a letter, the handle h behind it and the fields behind that
+abbrev pub handled_call : ℕ → ℕ → List Bytes → maths.Option Call
+handled_call f h [] = either (given (eqb f 99) (Call.commit h)) (given (eqb f 101) (Call.end h))
+handled_call f h (k ∷ []) =
+    either (given (eqb f 103 && is_word k) (Call.get h k longest))
+    (either (given (eqb f 100 && is_word k) (Call.delete h k))
+    (given (eqb f 102 && (is_word k || is k 45)) (Call.scan h (from_of k) unbounded longest longest)))
+handled_call f h (k ∷ (b ∷ [])) = given (eqb f 112 && (is_word k && is_word b)) (Call.put h k b)
+handled_call f h (k ∷ (b ∷ (x ∷ xs))) = maths.none

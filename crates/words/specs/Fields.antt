@@ -1,13 +1,10 @@
 -- The bytes before a separator, and the number of a handle's field.
 -- Assumes nothing.
-use Rattle.std.specs.Prelude.{ℕ, cond, ◌&&◌, [], ◌∷◌, leb, eqb}
-use Rattle.std.proofs.Math.Option.{Option, none, some}
+use Rattle.std.specs.Prelude.{ℕ, cond, ◌&&◌, [], ◌∷◌, leb, eqb, Option, Some, None}
 use Rattle.paper.specs.Keys.{Bytes}
 use Rattle.paper.specs.Lists.{all}
 use Rattle.paper.specs.Settings.{most_number}
 use Rattle.paper.specs.Replay.{is_digit, is_handle, decimal_from}
-use Rattle.words.specs.declared.Field.{Field}
-use Rattle.words.specs.declared.Field.TheVariants as field
 
 -- the bytes before the first separator, all where there is none
 unfoldable pub up_to : ℕ → Bytes → Bytes
@@ -16,13 +13,8 @@ up_to sep (b ∷ bs) = let further = up_to sep bs in cond (eqb b sep) [] (b ∷ 
 
 -- 'H decimal, 0 to 2^64-1, no leading zero': the number of a handle's field, none where it is not a handle
 unfoldable pub handle_in : Bytes → Option ℕ
-handle_in s = cond (is_handle s) (some (decimal_from 0 s)) none
+handle_in s = cond (is_handle s) (Some (decimal_from 0 s)) None
 
 -- the number of the digits s behind digits that make n, none where they are not digits or it does not fit 64 bits
 unfoldable pub digits_from : ℕ → Bytes → Option ℕ
-digits_from n s = cond (all is_digit s && leb (decimal_from n s) most_number) (some (decimal_from n s)) none
-
--- the number that a handle's field was read as
-abbrev pub number_of : Field → Option ℕ
-number_of (field.Number n) = some n
-number_of field.Other = none
+digits_from n s = cond (all is_digit s && leb (decimal_from n s) most_number) (Some (decimal_from n s)) None

@@ -1,37 +1,71 @@
-// A line of a script, understood: which command it is, and where its key and value stand.
+// The words of a script: its lines, and the command that a line is.
 #![tactic(auto)]
 
-ghost use Rattle.std.specs.Prelude.{◌≡◌, [], ◌∷◌, suc, ◌+◌, ◌-◌, ◌≤◌, ◌<◌, length, drop};
-ghost use Rattle.std.proofs.Math.Option.{some};
-ghost use Rattle.paper.specs.Replay.{pieces, is_letter_or_digit, no_leading_zero, is_word, is, line_call};
-ghost use Rattle.raw.specs.Bytes.{part};
-ghost use Rattle.words.specs.Fields.{up_to, digits_from, handle_in, number_of};
-ghost use Rattle.words.specs.Commands.{call_of, Within, second, Read};
+ghost use Rattle.std.specs.Prelude.{◌≡◌, [], ◌∷◌};
+ghost use Rattle.std.specs.Iterator.{YieldsFirstRef, item_count};
+ghost use Rattle.paper.specs.Replay.{pieces, is_word, line_call};
+ghost use Rattle.words.specs.Fields.{digits_from, handle_in};
+ghost use Rattle.words.specs.Lines.{lines_in};
+ghost use Rattle.words.specs.Commands.{call_of, lone_call, handled_call};
 
-// '`b`; `g H key`; `p H key value`; `d H key`; `f H key`, the first pair above that key, `-` for unbounded; `c H`; `e H`; `z` freezes'. Keys and values are
-// told by the index in the line at which they start.
-#[derive(Clone, Copy)]
-pub enum Command {
+// ---- lines
+
+// The lines of a script that are left to read, each without its LF: 'lines end in LF, the last may lack it'.
+#[derive(Clone, Copy, Debug)]
+pub struct Lines<'a> {
+    pub rest: &'a [u8],
+}
+
+impl<'a> Iterator for Lines<'a> {
+    type Item = &'a [u8];
+
+    ghost next_gives = { YieldsFirstRef (λ s. lines_in s.rest.now) };
+
+    ghost remaining = { item_count (λ s. lines_in s.rest.now) };
+
+    fn next(&mut self) -> Option<&'a [u8]> {
+        if self.rest.is_empty() {
+            return None;
+        }
+        let rest = self.rest;
+        match rest.iter().position(|b| *b == b'\n') {
+            Some(end) => {
+                self.rest = &rest[end + 1..];
+                Some(&rest[..end])
+            }
+            None => {
+                self.rest = &[];
+                Some(rest)
+            }
+        }
+    }
+}
+
+// ---- commands
+
+// '`b`; `g H key`; `p H key value`; `d H key`; `f H key`, the first pair above that key, `-` for unbounded; `c H`; `e H`; `z` freezes'.
+#[derive(Clone, Copy, Debug, PartialEq, Eq)]
+pub enum Command<'a> {
     Begin,
     Get {
         handle: u64,
-        key: usize,
+        key: &'a [u8],
     },
     Put {
         handle: u64,
-        key: usize,
-        value: usize,
+        key: &'a [u8],
+        value: &'a [u8],
     },
     Delete {
         handle: u64,
-        key: usize,
+        key: &'a [u8],
     },
     First {
         handle: u64,
     },
     Above {
         handle: u64,
-        key: usize,
+        key: &'a [u8],
     },
     Commit {
         handle: u64,
@@ -40,247 +74,112 @@ pub enum Command {
         handle: u64,
     },
     Freeze,
-    Unknown,
-}
-
-// ---- pieces
-
-// The end of the piece that starts at `at`: the first separator from there on, or the end of s. Where `at` is not within s, the piece is empty.
-pub fn piece_end(s: &[u8], separator: u8, at: usize) -> usize
-    ensures { result ≡ at + length (up_to separator (drop at s.now)) }
-{
-    let mut i = at;
-    while i < s.len() {
-        if s[i] == separator {
-            return i;
-        }
-        i += 1;
-    }
-    i
-}
-
-// ---- a handle
-
-// What a handle's field is.
-#[derive(Clone, Copy)]
-enum Field {
-    Number { n: u64 },
-    Other,
-}
-
-// 'no leading zero'
-fn leads_well(s: &[u8]) -> bool
-    ensures { result ≡ no_leading_zero s.now }
-{
-    if s.len() == 0 {
-        return false;
-    }
-    if s.len() == 1 {
-        return true;
-    }
-    if s[0] == 48 {
-        return false;
-    }
-    true
 }
 
 // The number that digits make, where they are digits and the number fits 64 bits.
-fn digits(s: &[u8]) -> Field
-    ensures { number_of result ≡ digits_from 0 s.now }
+fn digits(s: &[u8]) -> Option<u64>
+    ensures { result ≡ digits_from 0 s.now }
 {
     let mut n: u64 = 0;
-    let mut i = 0;
-    while i < s.len() {
-        let b = raw::byte(s, i);
-        if b < 48 {
-            return Field::Other;
+    for &b in s {
+        if !b.is_ascii_digit() {
+            return None;
         }
-        if 57 < b {
-            return Field::Other;
-        }
-        if (18446744073709551615 - (b - 48)) / 10 < n {
-            return Field::Other;
-        }
-        n = n * 10 + (b - 48);
-        i += 1;
+        n = n.checked_mul(10)?.checked_add(u64::from(b - b'0'))?;
     }
-    Field::Number { n: n }
+    Some(n)
 }
 
 // 'H decimal, 0 to 2^64-1, no leading zero'
-fn handle_in(s: &[u8]) -> Field
-    ensures { number_of result ≡ handle_in s.now }
+fn handle_in(s: &[u8]) -> Option<u64>
+    ensures { result ≡ handle_in s.now }
 {
-    if leads_well(s) {
-        return digits(s);
+    if s.is_empty() || (s.len() > 1 && s[0] == b'0') {
+        return None;
     }
-    Field::Other
-}
-
-// ---- keys and values
-
-fn is_letter_or_digit(b: u8) -> bool
-    ensures { result ≡ is_letter_or_digit b }
-{
-    if b < 48 {
-        return false;
-    }
-    if b <= 57 {
-        return true;
-    }
-    if b < 65 {
-        return false;
-    }
-    if b <= 90 {
-        return true;
-    }
-    if b < 97 {
-        return false;
-    }
-    b <= 122
+    digits(s)
 }
 
 // 'keys and values 1 to 16 ASCII letters or digits'
 fn is_word(s: &[u8]) -> bool
     ensures { result ≡ is_word s.now }
 {
-    if s.len() == 0 {
-        return false;
-    }
-    if 16 < s.len() {
-        return false;
-    }
-    let mut i = 0;
-    while i < s.len() {
-        if !is_letter_or_digit(s[i]) {
-            return false;
-        }
-        i += 1;
-    }
-    true
+    !s.is_empty() && s.len() <= 16 && s.iter().all(|b| b.is_ascii_alphanumeric())
 }
 
-// '`-` for unbounded'
-fn is_dash(s: &[u8]) -> bool
-    ensures { result ≡ is s.now 45 }
+// A letter alone.
+fn alone<'a>(letter: u8) -> Option<Command<'a>>
+    ensures { call_of result ≡ lone_call letter }
 {
-    if s.len() != 1 {
-        return false;
-    }
-    s[0] == 45
-}
-
-// ---- commands: their private parts are by the number of fields, of a line whose second field is the handle
-
-// The command of a line that is one byte.
-fn alone(line: &[u8]) -> Command
-    requires { length line.now ≡ 1 }
-    ensures { Read line.now (line.now ∷ []) result }
-{
-    if line[0] == 98 {
-        return Command::Begin;
-    }
-    if line[0] == 122 {
-        return Command::Freeze;
-    }
-    Command::Unknown
-}
-
-// Four fields, the key from `key` to `end` and the value behind it, or more.
-fn with_value(line: &[u8], letter: u8, handle: u64, key: usize, end: usize) -> Command
-    requires { (handle_in (second line.now) ≡ some handle) × (key ≤ end) × (end < length line.now) }
-    ensures { Read line.now ((letter ∷ []) ∷ second line.now ∷ part line.now key (end - key) ∷ pieces 32 (drop (suc end) line.now)) result }
-{
-    let value = end + 1;
-    if piece_end(line, 32, value) < line.len() {
-        return Command::Unknown;
-    }
-    if letter != 112 {
-        return Command::Unknown;
-    }
-    if !is_word(&line[key..end]) {
-        return Command::Unknown;
-    }
-    if !is_word(&line[value..]) {
-        return Command::Unknown;
-    }
-    Command::Put {
-        handle: handle,
-        key: key,
-        value: value,
+    match letter {
+        b'b' => Some(Command::Begin),
+        b'z' => Some(Command::Freeze),
+        _ => None,
     }
 }
 
-// Three fields, the last from `key` on.
-fn with_key(line: &[u8], letter: u8, handle: u64, key: usize) -> Command
-    requires { (handle_in (second line.now) ≡ some handle) × (key ≤ length line.now) }
-    ensures { Read line.now ((letter ∷ []) ∷ second line.now ∷ drop key line.now ∷ []) result }
+// A letter and a handle.
+fn with_handle<'a>(letter: u8, handle: u64) -> Option<Command<'a>>
+    ensures { call_of result ≡ handled_call letter handle [] }
 {
-    if is_dash(&line[key..]) {
-        if letter == 102 {
-            return Command::First { handle: handle };
-        }
-        return Command::Unknown;
+    match letter {
+        b'c' => Some(Command::Commit { handle }),
+        b'e' => Some(Command::End { handle }),
+        _ => None,
     }
-    if !is_word(&line[key..]) {
-        return Command::Unknown;
-    }
-    if letter == 103 {
-        return Command::Get {
-            handle: handle,
-            key: key,
-        };
-    }
-    if letter == 100 {
-        return Command::Delete {
-            handle: handle,
-            key: key,
-        };
-    }
-    if letter == 102 {
-        return Command::Above {
-            handle: handle,
-            key: key,
-        };
-    }
-    Command::Unknown
 }
 
-// Two fields, the handle up to `end`, or more.
-fn with_handle(line: &[u8], letter: u8, handle: u64, end: usize) -> Command
-    requires { (handle_in (second line.now) ≡ some handle) × (end ≡ 2 + length (second line.now)) }
-    ensures { Read line.now ((letter ∷ []) ∷ pieces 32 (drop 2 line.now)) result }
+// A letter, a handle and a key.
+fn with_key(letter: u8, handle: u64, key: &[u8]) -> Option<Command<'_>>
+    ensures { call_of result ≡ handled_call letter handle (key.now ∷ []) }
 {
-    if end < line.len() {
-        let key = end + 1;
-        let until = piece_end(line, 32, key);
-        if until < line.len() {
-            return with_value(line, letter, handle, key, until);
-        }
-        return with_key(line, letter, handle, key);
+    if key == b"-".as_slice() {
+        return (letter == b'f').then_some(Command::First { handle });
     }
-    if letter == 99 {
-        return Command::Commit { handle: handle };
+    if !is_word(key) {
+        return None;
     }
-    if letter == 101 {
-        return Command::End { handle: handle };
+    match letter {
+        b'g' => Some(Command::Get { handle, key }),
+        b'd' => Some(Command::Delete { handle, key }),
+        b'f' => Some(Command::Above { handle, key }),
+        _ => None,
     }
-    Command::Unknown
 }
 
-// The command of a line without its LF.
-pub fn understood(line: &[u8]) -> Command
-    ensures { (call_of line.now result ≡ line_call (pieces 32 line.now)) × Within line.now result }
+// A letter, a handle, a key and a value.
+fn with_value<'a>(letter: u8, handle: u64, key: &'a [u8], value: &'a [u8]) -> Option<Command<'a>>
+    ensures { call_of result ≡ handled_call letter handle (key.now ∷ value.now ∷ []) }
 {
-    if piece_end(line, 32, 0) != 1 {
-        return Command::Unknown;
+    (letter == b'p' && is_word(key) && is_word(value)).then_some(Command::Put {
+        handle,
+        key,
+        value,
+    })
+}
+
+// The command of a line without its LF, where there is one.
+pub fn understood(line: &[u8]) -> Option<Command<'_>>
+    ensures { call_of result ≡ line_call (pieces 32 line.now) }
+{
+    let mut fields = line.split(|b| *b == b' ');
+    let letter = fields.next()?;
+    if letter.len() != 1 {
+        return None;
     }
-    if line.len() == 1 {
-        return alone(line);
+    let letter = letter[0];
+    let Some(handle) = fields.next() else {
+        return alone(letter);
+    };
+    let handle = handle_in(handle)?;
+    let Some(key) = fields.next() else {
+        return with_handle(letter, handle);
+    };
+    let Some(value) = fields.next() else {
+        return with_key(letter, handle, key);
+    };
+    if fields.next().is_some() {
+        return None;
     }
-    let end = piece_end(line, 32, 2);
-    match handle_in(&line[2..end]) {
-        Field::Other => Command::Unknown,
-        Field::Number { n } => with_handle(line, line[0], n, end),
-    }
+    with_value(letter, handle, key, value)
 }

@@ -1,13 +1,12 @@
 -- The checks of a write, one after the other: which of them stops it, and what holds where none does.
 -- Assumes nothing.
-use Prim.Native.Nat.{ℕ, ◌≤◌, ◌<◌}
+use Prim.Native.Nat.{ℕ, ◌≤◌}
 use native.Mathlib.Omega.{arith}
-use mathlib.Core.Path.{◌≡◌, refl, sym, ap, ap₂}
+use mathlib.Core.Path.{◌≡◌, refl, ap, ap₂}
 use mathlib.Core.Bool.{Bool, true, false, not, ◌&&◌}
-use mathlib.Core.List.{[], ◌∷◌}
 use lib.ListN.{length}
 use lib.Dec.{leb}
-use borrow.Author.Tests.{le-leb, lt-leb, leb-true}
+use borrow.Author.Tests.{leb-true}
 use Rattle.paper.specs.Lists.{is_empty}
 use Rattle.paper.specs.Keys.{Bytes}
 use Rattle.paper.specs.Refusals.{Refusal, empty_key, too_long, no_room, overlay, write_set, stop, go, must, ◌>>◌}
@@ -15,7 +14,7 @@ use Rattle.paper.specs.Settings.{longest}
 use Rattle.paper.specs.Store.{Txn}
 use Rattle.paper.specs.Room.{overlay_fits, set_fits}
 use Rattle.paper.specs.Calls.{good_key_value}
-use Rattle.paper.proofs.Bools.{and_left, and_right, and_intro}
+use Rattle.paper.proofs.Bools.{and_left, and_right}
 use Rattle.txn.specs.declared.Rooms.{Rooms}
 use Rattle.txn.specs.Place.{settings_of}
 use Rattle.writing.specs.Writes.{room_for}
@@ -41,45 +40,12 @@ both-held true true q w e = (refl, refl)
 both-held true false q w e = absurd (let z : ◌≡◌ {A = ℕ} 0 1 = cc in omega arith)
 both-held false c q w e = absurd (let z : ◌≡◌ {A = ℕ} 0 1 = cc in omega arith)
 
--- ---- 1, 2
-empty-none : (k : Bytes) → length k ≡ 0 → not (is_empty k) ≡ false
-empty-none [] e = refl
-empty-none (x ∷ xs) e = absurd (omega (arith, e))
-
-empty-some : (k : Bytes) → (length k ≡ 0 → ⊥) → not (is_empty k) ≡ true
-empty-some [] e = absurd (e refl)
-empty-some (x ∷ xs) e = refl
-
-module _ (k v : Bytes) where
-  abbrev short : Bool
-  short = leb (length k) longest && leb (length v) longest
-
-  pub key-empty : length k ≡ 0 → stop empty_key ≡ good_key_value k v
-  unfolding good_key_value
-  key-empty e = sym (first-fails (not (is_empty k)) short empty_key too_long (empty-none k e))
-
-  module _ (e : length k ≡ 0 → ⊥) where
-    too_long_lem : short ≡ false → stop too_long ≡ good_key_value k v
-    unfolding good_key_value
-    too_long_lem f = sym (second-fails (not (is_empty k)) short empty_key too_long (empty-some k e) f)
-
-    pub key-long : longest < length k → stop too_long ≡ good_key_value k v
-    key-long l = too_long_lem (ap (λ (x : Bool). x && leb (length v) longest) (lt-leb (length k) longest l))
-
-    module _ (m : length k ≤ longest) where
-      pub value-long : longest < length v → stop too_long ≡ good_key_value k v
-      value-long l = too_long_lem (ap₂ (λ (x y : Bool). x && y) (le-leb (length k) longest m) (lt-leb (length v) longest l))
-
-      pub lengths-good : length v ≤ longest → go tt ≡ good_key_value k v
-      unfolding good_key_value
-      lengths-good l = sym (both_hold (not (is_empty k)) short empty_key too_long (empty-some k e) (and_intro (le-leb (length k) longest m) (le-leb (length v) longest l)))
-
-  -- what a write may count on
-  pub lengths-held : good_key_value k v ≡ go tt → (length k ≤ longest) × (length v ≤ longest)
-  unfolding good_key_value
-  lengths-held g =
-      let h = (both-held (not (is_empty k)) short empty_key too_long g).1 in
-      (leb-true (length k) longest (and_left (leb (length k) longest) (leb (length v) longest) h), leb-true (length v) longest (and_right (leb (length k) longest) (leb (length v) longest) h))
+-- ---- 1, 2: what a write may count on
+pub lengths-held : (k v : Bytes) → good_key_value k v ≡ go tt → (length k ≤ longest) × (length v ≤ longest)
+unfolding good_key_value
+lengths-held k v g =
+    let h = (both-held (not (is_empty k)) (leb (length k) longest && leb (length v) longest) empty_key too_long g).1 in
+    (leb-true (length k) longest (and_left (leb (length k) longest) (leb (length v) longest) h), leb-true (length v) longest (and_right (leb (length k) longest) (leb (length v) longest) h))
 
 -- ---- 5
 module _ (r : Rooms) (t : Txn) where

@@ -3,11 +3,10 @@
 use Prim.Native.Nat.{ℕ, ◌≤◌, ◌<◌}
 use native.Mathlib.Omega.{arith}
 use mathlib.Core.Path.{◌≡◌, sym, ap, ◌∙◌}
-use mathlib.Core.Bool.{Bool, true, false, not}
+use mathlib.Core.Bool.{Bool, true, false}
 use mathlib.Core.List.{List}
 use mathlib.Core.Option.{some}
 use lib.ListN.{length}
-use borrow.Author.Tests.{not-true, not-false}
 use Rattle.paper.specs.Lists.{insert}
 use Rattle.paper.specs.Keys.{Bytes, Pair, octets, cmp_pair}
 use Rattle.paper.specs.Hash.{hash_of}
@@ -19,27 +18,23 @@ use Rattle.overlay.specs.Overlay.{pair}
 use Rattle.txn.specs.declared.Rooms.{Rooms}
 use Rattle.txn.specs.Place.{settings_of, place_of, stride_of, txn_in, orderly, own_start, own_of, own_held}
 use Rattle.txn.proofs.Holding.{held, own_is, own_held_lem}
-use Rattle.reply.specs.Told.{refusal_of}
-use Rattle.reply.specs.declared.Refusal as reasons
-use Rattle.reply.specs.declared.Settled.{Settled}
-use Rattle.reply.specs.declared.Settled.TheVariants.{Done, Refused}
-use Rattle.writing.specs.Writes.{try_of, written, room_for, leaves, write_on}
+use Rattle.writing.specs.Writes.{written, room_for, leaves, write_on}
 use Rattle.writing.proofs.Checks.{overlay-full, writes-full, room-there, room-held}
 
 -- ---- what a write in a place answers
-module _ (r : Rooms) (serializable : Bool) (q k v : Bytes) where
+module _ (r : Rooms) (q k v : Bytes) where
   -- the answer and the place after it, for the transaction in the place
   abbrev pub written_as : Txn → Try (Unit {0}) × Bytes
-  written_as t = let u = written serializable k v (hash_of k) t in (room_for r u, leaves (room_for r u) q ((place_of r).write (some u) q))
+  written_as t = let u = written r.serializable k v (hash_of k) t in (room_for r u, leaves (room_for r u) q ((place_of r).write (some u) q))
 
   module _ (t : Txn) (x : Bytes) where
-    pub room-is : (m : Try (Unit {0})) → ◌≡◌ {A = Try (Unit {0}) × Bytes} (m, x) (written_as t) → room_for r (written serializable k v (hash_of k) t) ≡ m
+    pub room-is : (m : Try (Unit {0})) → ◌≡◌ {A = Try (Unit {0}) × Bytes} (m, x) (written_as t) → room_for r (written r.serializable k v (hash_of k) t) ≡ m
     room-is m e = sym (ap (λ (p : Try (Unit {0}) × Bytes). p.0) e)
 
-    pub left_is : (m : Try (Unit {0})) → ◌≡◌ {A = Try (Unit {0}) × Bytes} (m, x) (written_as t) → x ≡ leaves m q ((place_of r).write (some (written serializable k v (hash_of k) t)) q)
-    left_is m e = ap (λ (p : Try (Unit {0}) × Bytes). p.1) e ∙ ap (λ (n : Try (Unit {0})). leaves n q ((place_of r).write (some (written serializable k v (hash_of k) t)) q)) (room-is m e)
+    pub left_is : (m : Try (Unit {0})) → ◌≡◌ {A = Try (Unit {0}) × Bytes} (m, x) (written_as t) → x ≡ leaves m q ((place_of r).write (some (written r.serializable k v (hash_of k) t)) q)
+    left_is m e = ap (λ (p : Try (Unit {0}) × Bytes). p.1) e ∙ ap (λ (n : Try (Unit {0})). leaves n q ((place_of r).write (some (written r.serializable k v (hash_of k) t)) q)) (room-is m e)
 
-  pub as-txn : (t : Txn) → txn_in r q ≡ t → write_on r serializable q k v ≡ written_as t
+  pub as-txn : (t : Txn) → txn_in r q ≡ t → write_on r q k v ≡ written_as t
   unfolding write_on
   as-txn t e = ap written_as e
 
@@ -48,44 +43,45 @@ module _ (r : Rooms) (q : Bytes) (y : octets q ≡ true) (l : length q ≡ strid
   pub own-ready : (own_start ≤ length q) × (own_held q ≡ true)
   own-ready = (omega arith, own_held_lem r q l (held r q y l h))
 
-  module _ (serializable : Bool) (k v : Bytes) (n : ℕ) (a : Bool) (e : a ≡ overlay_fits (settings_of false r) (insert cmp_pair (pair k v) (own_of q))) where
-    overlay-is : overlay_fits (settings_of false r) (written serializable k v n (txn_in r q)).own ≡ a
+  module _ (k v : Bytes) (n : ℕ) (a : Bool) (e : a ≡ overlay_fits (settings_of false r) (insert cmp_pair (pair k v) (own_of q))) where
+    overlay-is : overlay_fits (settings_of false r) (written r.serializable k v n (txn_in r q)).own ≡ a
     unfolding with_writes
     overlay-is = sym (e ∙ ap (λ (own : List Pair). overlay_fits (settings_of false r) (insert cmp_pair (pair k v) own)) (own_is r q l (held r q y l h)))
 
-    pub room-overlay : not a ≡ true → stop (no_room overlay) ≡ room_for r (written serializable k v n (txn_in r q))
-    room-overlay f = sym (overlay-full r (written serializable k v n (txn_in r q)) (overlay-is ∙ not-true a f))
+    pub room-overlay : a ≡ false → stop (no_room overlay) ≡ room_for r (written r.serializable k v n (txn_in r q))
+    room-overlay f = sym (overlay-full r (written r.serializable k v n (txn_in r q)) (overlay-is ∙ f))
 
-    module _ (c : Bool) (g : c ≡ set_fits r.writes (set_add serializable n (txn_in r q).writes)) (f : not a ≡ false) where
-      writes_are : set_fits r.writes (written serializable k v n (txn_in r q)).writes ≡ c
+    module _ (c : Bool) (g : c ≡ set_fits r.writes (set_add r.serializable n (txn_in r q).writes)) (f : a ≡ true) where
+      writes_are : set_fits r.writes (written r.serializable k v n (txn_in r q)).writes ≡ c
       unfolding with_writes
       writes_are = sym g
 
-      pub room-writes : not c ≡ true → stop (no_room write_set) ≡ room_for r (written serializable k v n (txn_in r q))
-      room-writes j = sym (writes-full r (written serializable k v n (txn_in r q)) (overlay-is ∙ not-false a f) (writes_are ∙ not-true c j))
+      pub room-writes : c ≡ false → stop (no_room write_set) ≡ room_for r (written r.serializable k v n (txn_in r q))
+      room-writes j = sym (writes-full r (written r.serializable k v n (txn_in r q)) (overlay-is ∙ f) (writes_are ∙ j))
 
-      pub room-good : not c ≡ false → go tt ≡ room_for r (written serializable k v n (txn_in r q))
-      room-good j = sym (room-there r (written serializable k v n (txn_in r q)) (overlay-is ∙ not-false a f) (writes_are ∙ not-false c j))
+      pub room-good : c ≡ true → go tt ≡ room_for r (written r.serializable k v n (txn_in r q))
+      room-good j = sym (room-there r (written r.serializable k v n (txn_in r q)) (overlay-is ∙ f) (writes_are ∙ j))
 
--- ---- the write: n is the key's hash, and m what the check for room answers
-module _ (r : Rooms) (serializable : Bool) (q k v : Bytes) (n : ℕ) (e : n ≡ hash_of k) (m : Settled) (f : try_of m ≡ room_for r (written serializable k v n (txn_in r q))) where
+-- ---- the write: n is the key's hash
+module _ (r : Rooms) (q k v : Bytes) (n : ℕ) (e : n ≡ hash_of k) where
   pub hash-small : n < 4294967296
   hash-small = omega (arith, hash-below k)
 
-  room_as : try_of m ≡ room_for r (written serializable k v (hash_of k) (txn_in r q))
-  room_as = f ∙ ap (λ (j : ℕ). room_for r (written serializable k v j (txn_in r q))) e
-
-  pub write-refused : (w : reasons.Refusal) → m ≡ Refused w → ◌≡◌ {A = Try (Unit {0}) × Bytes} (stop (refusal_of w), q) (write_on r serializable q k v)
+  -- the place after it, by what the check for room answers
+  write_as : (m : Try (Unit {0})) → m ≡ room_for r (written r.serializable k v n (txn_in r q)) → ◌≡◌ {A = Try (Unit {0}) × Bytes} (m, leaves m q ((place_of r).write (some (written r.serializable k v (hash_of k) (txn_in r q))) q)) (write_on r q k v)
   unfolding write_on
-  write-refused w d = ap {B = Try (Unit {0}) × Bytes} (λ j. (j, leaves j q ((place_of r).write (some (written serializable k v (hash_of k) (txn_in r q))) q))) (sym (ap try_of d) ∙ room_as)
+  write_as m f =
+      ap {B = Try (Unit {0}) × Bytes} (λ j. (j, leaves j q ((place_of r).write (some (written r.serializable k v (hash_of k) (txn_in r q))) q)))
+      (f ∙ ap (λ (j : ℕ). room_for r (written r.serializable k v j (txn_in r q))) e)
 
-  module _ (d : m ≡ Done) where
-    pub write-room : (overlay_fits (settings_of false r) (insert cmp_pair (pair k v) (txn_in r q).own) ≡ true) × (set_fits r.writes (set_add serializable n (txn_in r q).writes) ≡ true)
+  pub write-refused : (w : Refusal) → stop w ≡ room_for r (written r.serializable k v n (txn_in r q)) → ◌≡◌ {A = Try (Unit {0}) × Bytes} (stop w, q) (write_on r q k v)
+  write-refused w f = write_as (stop w) f
+
+  module _ (f : go tt ≡ room_for r (written r.serializable k v n (txn_in r q))) where
+    pub write-room : (overlay_fits (settings_of false r) (insert cmp_pair (pair k v) (txn_in r q).own) ≡ true) × (set_fits r.writes (set_add r.serializable n (txn_in r q).writes) ≡ true)
     unfolding with_writes
-    write-room = room-held r (written serializable k v n (txn_in r q)) (sym f ∙ ap try_of d)
+    write-room = room-held r (written r.serializable k v n (txn_in r q)) (sym f)
 
-    pub write_done : (x : Bytes) → x ≡ (place_of r).write (some (written serializable k v n (txn_in r q))) q → ◌≡◌ {A = Try (Unit {0}) × Bytes} (go tt, x) (write_on r serializable q k v)
-    unfolding write_on
+    pub write_done : (x : Bytes) → x ≡ (place_of r).write (some (written r.serializable k v n (txn_in r q))) q → ◌≡◌ {A = Try (Unit {0}) × Bytes} (go tt, x) (write_on r q k v)
     write_done x g =
-        ap {B = Try (Unit {0}) × Bytes} (λ z. (go tt, z)) (g ∙ ap (λ (j : ℕ). (place_of r).write (some (written serializable k v j (txn_in r q))) q) e)
-        ∙ ap {B = Try (Unit {0}) × Bytes} (λ j. (j, leaves j q ((place_of r).write (some (written serializable k v (hash_of k) (txn_in r q))) q))) (sym (ap try_of d) ∙ room_as)
+        ap {B = Try (Unit {0}) × Bytes} (λ z. (go tt, z)) (g ∙ ap (λ (j : ℕ). (place_of r).write (some (written r.serializable k v j (txn_in r q))) q) e) ∙ write_as (go tt) f

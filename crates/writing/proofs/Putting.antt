@@ -3,17 +3,17 @@
 use Prim.Native.Nat.{ℕ}
 use mathlib.Core.Path.{◌≡◌, refl, ap, ◌∙◌}
 use mathlib.Core.Bool.{Bool, true, false}
-use mathlib.Core.Option.{none, some}
+use mathlib.Core.Option.{some}
 use Rattle.paper.specs.Keys.{Bytes}
 use Rattle.paper.specs.Hash.{hash_of}
-use Rattle.paper.specs.Refusals.{Refusal, no_handle, is_closed, no_room, overlay, write_set, Try, stop, go, must, ◌>>=◌, ◌>>◌}
+use Rattle.paper.specs.Refusals.{Refusal, no_room, overlay, write_set, Try, stop, go, must, ◌>>=◌, ◌>>◌}
 use Rattle.paper.specs.Store.{Txn, Store, find_txn, with_writes, with_txn}
 use Rattle.paper.specs.Sound.{sound}
 use Rattle.paper.specs.Room.{overlay_fits, set_fits}
 use Rattle.paper.specs.Calls.{done, Outcome, outcome, good_key_value, in_open_txn, try_put, Call, tried}
 use Rattle.txn.specs.Place.{rooms_of}
 use Rattle.writing.specs.Writes.{written, room_for}
-use Rattle.seat.proofs.Entering.{enter-missing, enter-closed, enter-open}
+use Rattle.seat.proofs.Entering.{enter-open}
 
 -- what follows when the transaction is entered
 abbrev room-then : Store → Txn → Try Outcome
@@ -36,15 +36,12 @@ module _ (s : Store) (h : ℕ) (k v : Bytes) (e : sound s ≡ true) where
   unfolding tried try_put with_writes
   as-entered m f = ap (λ (x : Try Txn). x >>= further) f
 
-  pub put-missing : find_txn h s.places ≡ none → tried s (Call.put h k v) ≡ stop no_handle
+  -- 3, 4
+  pub put_unentered : (w : Refusal) → in_open_txn s h ≡ stop w → tried s (Call.put h k v) ≡ stop w
   unfolding ◌>>=◌
-  put-missing f = as-entered (stop no_handle) (enter-missing s h e f)
+  put_unentered w f = as-entered (stop w) f
 
   module _ (t : Txn) (f : find_txn h s.places ≡ some t) where
-    pub put-closed : t.open? ≡ false → tried s (Call.put h k v) ≡ stop is_closed
-    unfolding ◌>>=◌
-    put-closed m = as-entered (stop is_closed) (enter-closed s h e t f m)
-
     module _ (m : t.open? ≡ true) where
       as-open : tried s (Call.put h k v) ≡ further t
       unfolding ◌>>=◌

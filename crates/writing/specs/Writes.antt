@@ -11,14 +11,6 @@ use Rattle.paper.specs.Room.{overlay_fits, set_fits}
 use Rattle.overlay.specs.Overlay.{pair}
 use Rattle.txn.specs.declared.Rooms.{Rooms}
 use Rattle.txn.specs.Place.{settings_of, place_of, txn_in}
-use Rattle.reply.specs.Told.{refusal_of}
-use Rattle.reply.specs.declared.Settled.{Settled}
-use Rattle.reply.specs.declared.Settled.TheVariants.{Done, Refused}
-
--- a check's answer: whether the call goes on
-abbrev pub try_of : Settled → Try (Unit {0})
-try_of Done = go tt
-try_of (Refused w) = stop (refusal_of w)
 
 -- the transaction after a write of v at k: 'put and delete add to the write set'
 abbrev pub written : Bool → Bytes → Bytes → ℕ → Txn → Txn
@@ -34,7 +26,7 @@ leaves (stop w) old new = old
 leaves (go u) old new = new
 
 -- what a write of v at k in a place answers, and the place after it
-unfoldable pub write_on : Rooms → Bool → Bytes → Bytes → Bytes → Try (Unit {0}) × Bytes
-write_on r serializable q k v =
-    let t = written serializable k v (hash_of k) (txn_in r q) in
+unfoldable pub write_on : Rooms → Bytes → Bytes → Bytes → Try (Unit {0}) × Bytes
+write_on r q k v =
+    let t = written r.serializable k v (hash_of k) (txn_in r q) in
     (room_for r t, leaves (room_for r t) q ((place_of r).write (some t) q))

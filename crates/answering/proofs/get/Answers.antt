@@ -1,45 +1,35 @@
 -- 3, 4, 1, 2, and then the rest.
-use Rattle.answering.proofs.Getting.{get-missing, get-closed, get-empty, get-long, get-taken, get-rest}
-use Rattle.raw.proofs.Octets.{octets-of}
+use Rattle.std.proofs.Common.{rules}
+use Rattle.std.proofs.lemmas.Result.{err_from_is_err_and}
 use Rattle.paper.proofs.HashLaws.{hash-below}
-use Rattle.paper.specs.Keys.{octets}
-use Prim.Native.Nat.{ℕ, ◌<◌}
-use mathlib.Core.Bool.{true}
-use mathlib.Core.Path.{◌≡◌, sym, subst}
+use Rattle.seat.proofs.Finding.{bytes_known}
+use Rattle.answering.proofs.Getting.{get_unentered, get_bad, get-rest}
+use Rattle.answering.proofs.Seating.{taken}
+use mathlib.Core.Path.{◌∙◌}
 use native.Mathlib.Omega.{arith}
 use Rattle.answering.proofs.get.Goals as goal
 
-pub returns-then-key-eq0 : goal.returns-then-key-eq0
-returns-then-key-eq0 c =
-    let bytes : octets c.args.state.now ≡ true = octets-of c.args.state.now (λ i. omega (arith, c.slice_known-1.given i)) in
-    get-empty c.args.state.now bytes c.requires c.args.handle c.args.key.now c.args.out.now c.seat_of.result c.seat_of.ensures c.in-Open.place c.in-Open.read c.in-Open.is c.if-key-eq0.true
+pub returns-in_err-seat : goal.returns-in_err-seat
+returns-in_err-seat c =
+    let p = err_from_is_err_and c.from_residual.result c.from_residual.ensures.1 in
+    rw (p.1, p.2) (get_unentered c.args.state.now (bytes_known _ (search rules)) c.requires c.args.handle c.args.key.now c.args.out.now _ c.in_err-seat.ensures)
 
-pub returns-then-key-gt65535 : goal.returns-then-key-gt65535
-returns-then-key-gt65535 c =
-    let bytes : octets c.args.state.now ≡ true = octets-of c.args.state.now (λ i. omega (arith, c.slice_known-1.given i)) in
-    get-long c.args.state.now bytes c.requires c.args.handle c.args.key.now c.args.out.now c.seat_of.result c.seat_of.ensures c.in-Open.place c.in-Open.read c.in-Open.is (omega (arith, c.if-key-gt65535.true))
+pub returns-in_err-check_lengths : goal.returns-in_err-check_lengths
+returns-in_err-check_lengths c =
+    let p = err_from_is_err_and c.from_residual-in_err-check_lengths.result c.from_residual-in_err-check_lengths.ensures.1 in
+    rw (p.1, p.2) (get_bad c.args.state.now (bytes_known _ (search rules)) c.requires c.args.handle c.args.key.now c.args.out.now _ _ c.in_ok-seat.ensures _ c.in_err-check_lengths.ensures)
 
-pub view_of-view-requires : goal.view_of-view-requires
-view_of-view-requires c =
-    let bytes : octets c.args.state.now ≡ true = octets-of c.args.state.now (λ i. omega (arith, c.slice_known-1.given i)) in
-    (c.requires, c.shape_in-shape.ensures, get-taken c.args.state.now bytes c.requires c.args.handle c.args.key.now c.args.out.now c.seat_of.result c.seat_of.ensures c.in-Open.place c.in-Open.read c.in-Open.is c.shape_in-shape.result c.shape_in-shape.ensures)
+pub view-view-requires : goal.view-view-requires
+view-view-requires c =
+    (c.requires, c.shape_in-shape.ensures, taken c.args.state.now (bytes_known _ (search rules)) c.requires _ _ _ _ c.in_ok-seat.ensures _ c.shape_in-shape.ensures)
 
 pub answer_get-requires : goal.answer_get-requires
-answer_get-requires c =
-    let bytes : octets c.args.state.now ≡ true = octets-of c.args.state.now (λ i. omega (arith, c.slice_known-1.given i)) in
-    (get-taken c.args.state.now bytes c.requires c.args.handle c.args.key.now c.args.out.now c.seat_of.result c.seat_of.ensures c.in-Open.place c.in-Open.read c.in-Open.is c.shape_in-shape.result c.shape_in-shape.ensures, subst (λ (n : ℕ). n < 4294967296) (sym c.hash32-hash.ensures) (hash-below _), c.get-answer.ensures.1)
+answer_get-requires c = (
+  taken c.args.state.now (bytes_known _ (search rules)) c.requires _ _ _ _ c.in_ok-seat.ensures _ c.shape_in-shape.ensures,
+  omega (arith, c.from-hash.ensures, c.hash32.ensures, hash-below c.args.key.now),
+  c.get-answer.ensures.1,
+)
 
-pub returns-in-Missing : goal.returns-in-Missing
-returns-in-Missing c =
-    let bytes : octets c.args.state.now ≡ true = octets-of c.args.state.now (λ i. omega (arith, c.slice_known-1.given i)) in
-    get-missing c.args.state.now bytes c.requires c.args.handle c.args.key.now c.args.out.now c.seat_of.result c.seat_of.ensures c.in-Missing.is
-
-pub returns-in-Closed : goal.returns-in-Closed
-returns-in-Closed c =
-    let bytes : octets c.args.state.now ≡ true = octets-of c.args.state.now (λ i. omega (arith, c.slice_known-1.given i)) in
-    get-closed c.args.state.now bytes c.requires c.args.handle c.args.key.now c.args.out.now c.seat_of.result c.seat_of.ensures _ _ c.in-Closed.is
-
-pub returns-else-key-gt65535 : goal.returns-else-key-gt65535
-returns-else-key-gt65535 c =
-    let bytes : octets c.args.state.now ≡ true = octets-of c.args.state.now (λ i. omega (arith, c.slice_known-1.given i)) in
-    get-rest c.args.state.now bytes c.requires c.args.handle c.args.key.now c.args.out.now c.seat_of.result c.seat_of.ensures c.in-Open.place c.in-Open.read c.in-Open.is c.shape_in-shape.result c.shape_in-shape.ensures c.if-key-eq0.false (omega (arith, c.if-key-gt65535.false)) c.view_of-view.result c.view_of-view.ensures _ c.get-answer.ensures.0 c.hash32-hash.result c.hash32-hash.ensures _ c.answer_get.new.state c.answer_get.new.out c.answer_get.ensures
+pub returns : goal.returns
+returns c =
+    get-rest c.args.state.now (bytes_known _ (search rules)) c.requires c.args.handle c.args.key.now c.args.out.now _ _ c.in_ok-seat.ensures _ c.shape_in-shape.ensures c.in_ok-check_lengths.ensures _ c.view-view.ensures _ c.get-answer.ensures.0 _ (c.from-hash.ensures ∙ c.hash32.ensures) _ c.answer_get.new.state c.answer_get.new.out c.answer_get.ensures

@@ -1,64 +1,33 @@
 -- The handle's transaction, if it is open: without writes it is closed, else it is judged.
 use native.Mathlib.Omega.{arith}
-use mathlib.Core.Path.{◌≡◌, subst}
-use mathlib.Core.Bool.{true}
-use Prim.Native.Nat.{◌+◌, ◌≤◌, ◌<◌}
-use lib.ListN.{length}
-use Rattle.paper.specs.Keys.{octets}
-use Rattle.raw.proofs.Octets.{octets-of}
-use Rattle.layout.specs.Layout.{store_in}
-use Rattle.reply.specs.Told.{told_committed}
-use Rattle.seat.specs.Seats.{Seated, SeatTold}
-use Rattle.committing.proofs.Closing.{marks-inside}
-use Rattle.committing.proofs.Replies.{no-handle, was-closed, no_writes, may-commit, judged-told}
+use Rattle.std.proofs.Common.{rules}
+use Rattle.std.proofs.lemmas.Result.{err_from_is_err_and}
+use Rattle.seat.proofs.Finding.{bytes_known}
+use Rattle.committing.proofs.Held.{held_lies}
+use Rattle.committing.proofs.Closing.{seat_placed}
+use Rattle.committing.proofs.Replies.{told_unentered, no_writes, may-commit, judged-told}
 use Rattle.committing.proofs.commit.Goals as goal
 
-pub seat_of-requires : goal.seat_of-requires
-seat_of-requires c = (c.requires, c.shape_in-shape.ensures)
+pub returns-in_err-seat : goal.returns-in_err-seat
+returns-in_err-seat c =
+    let p = err_from_is_err_and c.from_residual.result c.from_residual.ensures.1 in
+    rw (p.1, p.2) (told_unentered c.args.state.now c.requires c.args.handle _ c.in_err-seat.ensures)
 
-pub overflow_add-place : goal.overflow_add-place
-overflow_add-place c =
-    let bytes : octets c.args.state.now ≡ true = octets-of c.args.state.now (λ i. omega (arith, c.slice_known-1.given i)) in
-    let opened : Seated (store_in c.args.state.now) c.args.handle c.in-Open.place c.in-Open.read true = subst (SeatTold (store_in c.args.state.now) c.args.handle) c.in-Open.is c.seat_of.ensures in
-    let inside : (c.in-Open.place + 24 + 8 ≤ length c.args.state.now) × (c.in-Open.place + 32 < 134217728) = marks-inside c.args.state.now c.requires c.shape_in-shape.result c.shape_in-shape.ensures c.args.handle c.in-Open.place c.in-Open.read true opened bytes in
-    let w = inside in omega (arith, w)
+pub overflow_add-seat : goal.overflow_add-seat
+overflow_add-seat c = let L = held_lies (seat_placed c.args.state.now c.requires _ c.shape_in-shape.ensures c.args.handle _ _ _ c.in_ok-seat.ensures) in omega arith
 
-pub be64-requires : goal.be64-requires
-be64-requires c =
-    let bytes : octets c.args.state.now ≡ true = octets-of c.args.state.now (λ i. omega (arith, c.slice_known-1.given i)) in
-    let opened : Seated (store_in c.args.state.now) c.args.handle c.in-Open.place c.in-Open.read true = subst (SeatTold (store_in c.args.state.now) c.args.handle) c.in-Open.is c.seat_of.ensures in
-    let inside : (c.in-Open.place + 24 + 8 ≤ length c.args.state.now) × (c.in-Open.place + 32 < 134217728) = marks-inside c.args.state.now c.requires c.shape_in-shape.result c.shape_in-shape.ensures c.args.handle c.in-Open.place c.in-Open.read true opened bytes in
-    let w = inside in w.0
+pub number-requires-clause-there : goal.number-requires-clause-there
+number-requires-clause-there c = let L = held_lies (seat_placed c.args.state.now c.requires _ c.shape_in-shape.ensures c.args.handle _ _ _ c.in_ok-seat.ensures) in omega arith
 
 pub close-requires : goal.close-requires
-close-requires c =
-    let bytes : octets c.args.state.now ≡ true = octets-of c.args.state.now (λ i. omega (arith, c.slice_known-1.given i)) in
-    let opened : Seated (store_in c.args.state.now) c.args.handle c.in-Open.place c.in-Open.read true = subst (SeatTold (store_in c.args.state.now) c.args.handle) c.in-Open.is c.seat_of.ensures in
-    let inside : (c.in-Open.place + 24 + 8 ≤ length c.args.state.now) × (c.in-Open.place + 32 < 134217728) = marks-inside c.args.state.now c.requires c.shape_in-shape.result c.shape_in-shape.ensures c.args.handle c.in-Open.place c.in-Open.read true opened bytes in
-    let w = inside in omega (arith, w)
+close-requires c = let L = held_lies (seat_placed c.args.state.now c.requires _ c.shape_in-shape.ensures c.args.handle _ _ _ c.in_ok-seat.ensures) in omega arith
 
-pub returns-then-be64-eq0 : goal.returns-then-be64-eq0
-returns-then-be64-eq0 c =
-    let bytes : octets c.args.state.now ≡ true = octets-of c.args.state.now (λ i. omega (arith, c.slice_known-1.given i)) in
-    let opened : Seated (store_in c.args.state.now) c.args.handle c.in-Open.place c.in-Open.read true = subst (SeatTold (store_in c.args.state.now) c.args.handle) c.in-Open.is c.seat_of.ensures in
-    no_writes c.args.state.now c.requires c.args.handle bytes c.shape_in-shape.result c.shape_in-shape.ensures c.in-Open.place c.in-Open.read opened c.be64.result c.be64.ensures c.if-be64-eq0.true c.close.new.state c.close.ensures
+pub returns-then-number-eq0 : goal.returns-then-number-eq0
+returns-then-number-eq0 c =
+    no_writes c.args.state.now c.requires c.args.handle (bytes_known _ (search rules)) _ c.shape_in-shape.ensures _ _ c.in_ok-seat.ensures _ c.number.ensures.value c.if-number-eq0.true _ c.close.ensures
 
 pub judge-requires : goal.judge-requires
-judge-requires c =
-    let bytes : octets c.args.state.now ≡ true = octets-of c.args.state.now (λ i. omega (arith, c.slice_known-1.given i)) in
-    let opened : Seated (store_in c.args.state.now) c.args.handle c.in-Open.place c.in-Open.read true = subst (SeatTold (store_in c.args.state.now) c.args.handle) c.in-Open.is c.seat_of.ensures in
-    may-commit c.args.state.now c.requires c.args.handle bytes c.shape_in-shape.result c.shape_in-shape.ensures c.in-Open.place c.in-Open.read opened c.be64.result c.be64.ensures c.if-be64-eq0.false
+judge-requires c = may-commit c.args.state.now c.requires c.args.handle (bytes_known _ (search rules)) _ c.shape_in-shape.ensures _ _ c.in_ok-seat.ensures _ c.number.ensures.value c.if-number-eq0.false
 
-pub returns-in-Missing : goal.returns-in-Missing
-returns-in-Missing c =
-    no-handle c.args.state.now c.requires c.args.handle (subst (SeatTold (store_in c.args.state.now) c.args.handle) c.in-Missing.is c.seat_of.ensures)
-
-pub returns-in-Closed : goal.returns-in-Closed
-returns-in-Closed c =
-    was-closed c.args.state.now c.requires c.args.handle c.in-Closed.place c.in-Closed.read (subst (SeatTold (store_in c.args.state.now) c.args.handle) c.in-Closed.is c.seat_of.ensures)
-
-pub returns-else-be64-eq0 : goal.returns-else-be64-eq0
-returns-else-be64-eq0 c =
-    let bytes : octets c.args.state.now ≡ true = octets-of c.args.state.now (λ i. omega (arith, c.slice_known-1.given i)) in
-    let opened : Seated (store_in c.args.state.now) c.args.handle c.in-Open.place c.in-Open.read true = subst (SeatTold (store_in c.args.state.now) c.args.handle) c.in-Open.is c.seat_of.ensures in
-    judged-told c.args.state.now c.requires c.args.handle bytes c.shape_in-shape.result c.shape_in-shape.ensures c.in-Open.place c.in-Open.read opened c.be64.result c.be64.ensures c.if-be64-eq0.false (told_committed c.judge.result, c.judge.new.state) c.judge.ensures
+pub returns : goal.returns
+returns c = judged-told c.args.state.now c.requires c.args.handle (bytes_known _ (search rules)) _ c.shape_in-shape.ensures _ _ c.in_ok-seat.ensures _ c.number.ensures.value c.if-number-eq0.false _ c.judge.ensures

@@ -1,8 +1,9 @@
 -- What the call told is told by its number.
 use Rattle.paper.specs.Calls.{Call}
+use Rattle.reply.specs.Told.{done_told}
+use Rattle.reply.proofs.Numbers.{settled-number}
 use Rattle.host.proofs.Calling.{number-on}
 use Rattle.host.proofs.ngalovuki_put.Goals as goal
 
 pub returns : goal.returns
-returns c =
-    number-on (Call.put c.args.handle c.args.key.now c.args.value.now) c.args.state.now _ _ _ c.put-told.ensures c.settled_number.ensures
+returns c = number-on done_told settled-number _ (Call.put c.args.handle c.args.key.now c.args.value.now) c.args.state.now _ _ c.put.ensures c.number.ensures

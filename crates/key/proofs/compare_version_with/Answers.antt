@@ -1,19 +1,16 @@
-use mathlib.Core.Path.{sym, ap, ◌∙◌}
-use Prim.Native.Nat.{ℕ, compare}
+use mathlib.Core.Path.{ap, ◌∙◌}
+use Prim.Native.Nat.{compare}
+use Rattle.paper.specs.Lists.{then_by}
 use Rattle.raw.specs.Orders.{ordering}
+use Rattle.raw.proofs.Comparing.{ordering-then, compare-numbers}
 use Rattle.key.proofs.Placing.{by_parts}
 use Rattle.key.proofs.compare_version_with.Goals as goal
 
-pub returns-in-Less : goal.returns-in-Less
-returns-in-Less c =
-    by_parts _ _ _ c.version_at-p.ensures _ c.args.stamp _ (ap ordering (sym c.in-Less.is) ∙ c.compare.ensures)
-
-pub returns-in-Greater : goal.returns-in-Greater
-returns-in-Greater c =
-    by_parts _ _ _ c.version_at-p.ensures _ c.args.stamp _ (ap ordering (sym c.in-Greater.is) ∙ c.compare.ensures)
-
-pub returns-in-Equal : goal.returns-in-Equal
-returns-in-Equal c =
-    c.compare-in-Equal.ensures
-    ∙ ap (λ (n : ℕ). compare c.args.stamp.time n) c.new.ensures
-    ∙ by_parts _ _ _ c.version_at-p.ensures _ c.args.stamp _ (ap ordering (sym c.in-Equal.is) ∙ c.compare.ensures)
+pub returns : goal.returns
+returns c =
+    let p = c.version_at-p.result in
+    let t = ap ordering c.cmp.ensures ∙ compare-numbers c.args.stamp.time c.new.result.time ∙ ap (compare c.args.stamp.time) c.new.ensures in
+    ap ordering c.then.ensures
+    ∙ ordering-then c.compare.result c.cmp.result
+    ∙ ap (then_by (ordering c.compare.result)) t
+    ∙ by_parts c.args.s.now c.args.at p c.version_at-p.ensures c.args.key.now c.args.stamp (ordering c.compare.result) c.compare.ensures

@@ -1,30 +1,29 @@
-use Rattle.mvcc.proofs.Pruning.{count-start, count-end, count-on}
-use Rattle.mvcc.proofs.Entries.{whole, walk-there}
-use Rattle.raw.proofs.Octets.{octets-of}
-use native.Mathlib.Omega.{arith}
+-- Each entry is counted, and what the history takes beside their heads is hashes.
+use Rattle.std.proofs.Common.{inl, refl, arith}
+use Rattle.std.proofs.lemmas.Iterator.Consumers.{YieldsList-from_first, count_from_yields_List}
+use Rattle.mvcc.specs.Histories.{history_in, commit_of}
+use Rattle.mvcc.proofs.Reading.{reads_in, history-size}
 use Rattle.mvcc.proofs.counts.Goals as goal
 
-pub loop-from-init : goal.loop-from-init
-loop-from-init c =
-    count-start c.args.s.now c.args.at c.args.end (octets-of c.args.s.now (λ i. omega (arith, c.type_inv.s i))) c.requires.0 c.requires.1 c.requires.2
+pub count-entries-requires-clause-fits : goal.count-entries-requires-clause-fits
+count-entries-requires-clause-fits c =
+    let b = c.args.history.now in
+    inl (omega (arith, history-size (history_in b) b (reads_in b c.requires)))
 
-pub entry_at-requires : goal.entry_at-requires
-entry_at-requires c = omega (arith, c.loop-from.invariant.walk.from, c.loop-from.invariant.walk.to)
+pub overflow_mul-result : goal.overflow_mul-result
+overflow_mul-result c =
+    let b = c.args.history.now in
+    let n = count_from_yields_List _ c.count-entries.result c.count-entries.ensures.ran (YieldsList-from_first commit_of (λ s. history_in s.rest.now) _ refl) in
+    omega (arith, n, history-size (history_in b) b (reads_in b c.requires))
 
-pub returns-in-Cut : goal.returns-in-Cut
-returns-in-Cut c = absurd (walk-there c.loop-from-test.true c.loop-from.invariant.walk c.entry_at.ensures c.in-Cut.is)
-
-pub overflow_add-entries : goal.overflow_add-entries
-overflow_add-entries c = let w = whole c.entry_at.ensures c.in-Whole.is in omega (arith, c.loop-from.invariant.size)
-
-pub overflow_add-hashes : goal.overflow_add-hashes
-overflow_add-hashes c = let w = whole c.entry_at.ensures c.in-Whole.is in omega (arith, c.loop-from.invariant.size)
-
-pub loop-from-smaller : goal.loop-from-smaller
-loop-from-smaller c = let w = whole c.entry_at.ensures c.in-Whole.is in omega arith
-
-pub loop-from-preserved : goal.loop-from-preserved
-loop-from-preserved c = count-on c.loop-from.invariant c.loop-from-test.true (whole c.entry_at.ensures c.in-Whole.is)
+pub overflow_sub-result : goal.overflow_sub-result
+overflow_sub-result c =
+    let b = c.args.history.now in
+    let n = count_from_yields_List _ c.count-entries.result c.count-entries.ensures.ran (YieldsList-from_first commit_of (λ s. history_in s.rest.now) _ refl) in
+    omega (arith, n, history-size (history_in b) b (reads_in b c.requires))
 
 pub returns : goal.returns
-returns c = count-end c.loop-from.invariant c.loop-from-test.false
+returns c =
+    let b = c.args.history.now in
+    let n = count_from_yields_List _ c.count-entries.result c.count-entries.ensures.ran (YieldsList-from_first commit_of (λ s. history_in s.rest.now) _ refl) in
+    (n, omega (arith, n, history-size (history_in b) b (reads_in b c.requires)))

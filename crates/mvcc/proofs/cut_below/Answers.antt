@@ -1,29 +1,24 @@
+use Rattle.std.proofs.Common.{arith}
+use Rattle.mvcc.specs.Histories.{commit_of}
+use Rattle.mvcc.proofs.Reading.{front}
 use Rattle.mvcc.proofs.Pruning.{cut-start, cut-end, cut-stop, cut_on}
-use Rattle.mvcc.proofs.Entries.{whole, walk-there}
-use Rattle.raw.proofs.Octets.{octets-of}
-use native.Mathlib.Omega.{arith}
 use Rattle.mvcc.proofs.cut_below.Goals as goal
+use Rattle.mvcc.proofs.cut_below.Goals.{in-Some+then-watermark-entry, in_default}
 
-pub loop-from-init : goal.loop-from-init
-loop-from-init c =
-    cut-start c.args.s.now c.args.at c.args.end c.args.watermark (octets-of c.args.s.now (λ i. omega (arith, c.type_inv.s i))) c.requires.0 c.requires.1 c.requires.2
+pub loop-entry-init : goal.loop-entry-init
+loop-entry-init c = cut-start c.args.history.now c.args.watermark c.requires
 
-pub entry_at-requires : goal.entry_at-requires
-entry_at-requires c = omega (arith, c.loop-from.invariant.walk.from, c.loop-from.invariant.walk.to)
+pub loop-entry-smaller : goal.loop-entry-smaller
+loop-entry-smaller c =
+    omega (arith, (front c.loop-entry.stays.now (commit_of c.in-Some.entry) c.in-Some.behind.now c.in-Some.ensures).long)
 
-pub returns-in-Cut : goal.returns-in-Cut
-returns-in-Cut c = absurd (walk-there c.loop-from-test.true c.loop-from.invariant.walk c.entry_at.ensures c.in-Cut.is)
-
-pub returns-then-watermark-number : goal.returns-then-watermark-number
-returns-then-watermark-number c =
-    cut-stop c.loop-from.invariant c.loop-from-test.true (whole c.entry_at.ensures c.in-Whole.is) c.if-watermark-number.true
-
-pub loop-from-smaller : goal.loop-from-smaller
-loop-from-smaller c = let w = whole c.entry_at.ensures c.in-Whole.is in omega arith
-
-pub loop-from-preserved : goal.loop-from-preserved
-loop-from-preserved c =
-    cut_on c.loop-from.invariant c.loop-from-test.true (whole c.entry_at.ensures c.in-Whole.is) c.if-watermark-number.false
+pub loop-entry-preserved : goal.loop-entry-preserved
+loop-entry-preserved c =
+    cut_on c.loop-entry.invariant (commit_of c.in-Some.entry) c.in-Some.behind.now c.in-Some.ensures c.if-watermark-entry.false
 
 pub returns : goal.returns
-returns c = cut-end c.loop-from.invariant c.loop-from-test.false
+returns c =
+    elim c.match-split_entry.branch [
+      | in-Some+then-watermark-entry w ↦ cut-stop c.loop-entry.invariant (commit_of w.in-Some.entry) w.in-Some.behind.now w.in-Some.ensures w.if-watermark-entry.true
+      | in_default w ↦ cut-end c.loop-entry.invariant w.in_default.ensures
+    ]

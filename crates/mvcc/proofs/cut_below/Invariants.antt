@@ -1,10 +1,10 @@
--- The invariant: what stays of the history is what stays of the entries from this place on.
+-- The invariant: what stays of the history is what stays of the entries that are left.
+use Rattle.std.proofs.Common.{length}
 use Rattle.mvcc.proofs.Pruning.{Cutting}
-use Prim.Native.Nat.{◌-◌}
 use Rattle.mvcc.proofs.cut_below.Given as goal
 
-abbrev pub invariant-loop-from : goal.invariant-loop-from
-invariant-loop-from l = Cutting l.s l.at l.end l.watermark l.from
+abbrev pub invariant-loop-entry : goal.invariant-loop-entry
+invariant-loop-entry l = Cutting l.history l.watermark l.stays
 
-abbrev pub decreases-loop-from : goal.decreases-loop-from
-decreases-loop-from l = l.end - l.from
+abbrev pub decreases-loop-entry : goal.decreases-loop-entry
+decreases-loop-entry l = length l.stays

@@ -1,23 +1,27 @@
 -- Four writes side by side: what stays, the number, the size, the hashes.
-use Rattle.mvcc.proofs.Entering.{after-long, entering}
-use Rattle.raw.proofs.Octets.{octets-of}
-use Rattle.raw.specs.Bytes.{over, part}
+use Rattle.std.proofs.Common.{length, ap, sym, ◌∙◌, arith}
+use Prim.Native.Nat.{ℕ, ◌+◌, ◌-◌}
 use Rattle.paper.specs.Image.{big_endian}
 use Rattle.paper.specs.Keys.{Bytes}
-use mathlib.Core.Path.{ap, ◌∙◌}
-use Prim.Native.Nat.{ℕ, ◌+◌, ◌*◌, ◌-◌}
-use native.Mathlib.Omega.{arith}
+use Rattle.raw.specs.Bytes.{part, over}
+use Rattle.raw.proofs.Parts.{length_part}
+use Rattle.raw.proofs.Octets.{octets-of, octets-part}
+use Rattle.mvcc.proofs.Entering.{after-long, entering}
 use Rattle.mvcc.proofs.enter.Goals as goal
 
 pub returns : goal.returns
 returns c =
-    let o = octets-of c.args.s.now (λ i. omega (arith, c.slice_known-1.given i)) in
-    let place : ℕ = c.args.at + (c.args.end - c.args.cut) in (
-      omega (arith, after-long c.args.s.now o c.args.cut c.args.end c.requires.1 c.requires.2 c.requires.5 c.args.number c.args.from c.args.count c.requires.4),
-      c.shift-2.ensures
-          ∙ ap (λ (t : Bytes). over t (place + 16) (part t c.args.from (4 * c.args.count)))
-          (c.put_be64-2.ensures
-          ∙ ap (λ (t : Bytes). over t (place + 8) (big_endian 8 (4 * c.args.count)))
-          (c.put_be64.ensures ∙ ap (λ (t : Bytes). over t place (big_endian 8 c.args.number)) c.shift.ensures))
-          ∙ entering c.args.s.now o c.args.cut c.args.end c.requires.1 c.requires.2 c.requires.5 c.args.number c.args.from c.args.count c.requires.4 c.args.at c.requires.3,
+    let room : Bytes = c.args.room.now in
+    let hs : Bytes = c.args.hashes.now in
+    let kept : ℕ = c.args.end - c.args.cut in
+    let stays : Bytes = part room c.args.cut kept in
+    let o = octets-part room c.args.cut kept (octets-of room (λ i. omega (arith, c.slice_known-1.given i))) in
+    let p = octets-of hs (λ i. omega (arith, c.type_inv.hashes i)) in
+    let n = length_part room c.args.cut kept (omega arith) in (
+      omega (arith, after-long stays o c.requires.4 c.args.number hs p c.requires.3),
+      c.copy_at.ensures
+          ∙ ap (λ (t : Bytes). over t (kept + 16) hs)
+          (c.put_number-2.ensures
+          ∙ ap (λ (t : Bytes). over t (kept + 8) (big_endian 8 (length hs))) (c.put_number.ensures ∙ ap (λ (t : Bytes). over t kept (big_endian 8 c.args.number)) c.shift.ensures))
+          ∙ entering stays o c.requires.4 c.args.number hs p c.requires.3 room kept (sym n) (omega arith),
     )

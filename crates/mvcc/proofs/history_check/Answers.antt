@@ -1,33 +1,33 @@
-use Rattle.mvcc.proofs.Checking.{check-start, check-wrong, check-room, check-on, check-end}
-use Rattle.mvcc.proofs.Entries.{whole}
-use native.Mathlib.Omega.{arith}
+use Rattle.std.proofs.Common.{length, sym, ◌∙◌, arith, eqb-true}
+use Rattle.std.proofs.lemmas.Bool.{eqb-false}
+use Rattle.mvcc.specs.Histories.{commit_of}
+use Rattle.mvcc.proofs.Reading.{front}
+use Rattle.mvcc.proofs.Checking.{check-start, check-end, check_cut, check-wrong, check-on}
 use Rattle.mvcc.proofs.history_check.Goals as goal
 
-pub loop-from-init : goal.loop-from-init
-loop-from-init c =
-    check-start c.args.s.now c.args.at c.args.end c.args.clock c.args.entries c.args.hashes c.requires.0 c.requires.1
+pub loop-rest-init : goal.loop-rest-init
+loop-rest-init c = check-start c.args.history.now c.args.clock c.args.entries c.args.hashes
 
-pub sound_entry-requires : goal.sound_entry-requires
-sound_entry-requires c = omega arith
+pub returns-in_default : goal.returns-in_default
+returns-in_default c =
+    check_cut c.args.history.now c.args.clock c.args.entries c.args.hashes c.loop-rest.rest.now c.loop-rest.left c.loop-rest.invariant
+    (eqb-false (length c.loop-rest.rest.now) 0 (sym c.is_empty.ensures ∙ c.loop-rest-test.true)) c.in_default.ensures
 
-pub returns-in-Cut : goal.returns-in-Cut
-returns-in-Cut c =
-    check-wrong c.loop-from.invariant c.requires.1 c.loop-from-test.true c.sound_entry.ensures c.in-Cut.is
+pub returns-in_default-after : goal.returns-in_default-after
+returns-in_default-after c =
+    check-wrong c.args.history.now c.args.clock c.args.entries c.args.hashes c.loop-rest.rest.now c.loop-rest.left c.loop-rest.invariant
+    (commit_of c.in-Some.entry) c.in-Some.behind.now c.in-Some.ensures c.in_default-after.ensures
 
-pub overflow_sub-left : goal.overflow_sub-left
-overflow_sub-left c =
-    let r = check-room c.loop-from.invariant c.requires.1 c.loop-from-test.true (whole c.sound_entry.ensures c.in-Whole.is) in omega arith
+pub loop-rest-smaller : goal.loop-rest-smaller
+loop-rest-smaller c =
+    omega (arith, (front c.loop-rest.rest.now (commit_of c.in-Some.entry) c.in-Some.behind.now c.in-Some.ensures).long)
 
-pub overflow_sub-left-in-Whole : goal.overflow_sub-left-in-Whole
-overflow_sub-left-in-Whole c =
-    let r = check-room c.loop-from.invariant c.requires.1 c.loop-from-test.true (whole c.sound_entry.ensures c.in-Whole.is) in omega arith
-
-pub loop-from-smaller : goal.loop-from-smaller
-loop-from-smaller c = let w = whole c.sound_entry.ensures c.in-Whole.is in omega arith
-
-pub loop-from-preserved : goal.loop-from-preserved
-loop-from-preserved c =
-    check-on c.loop-from.invariant c.requires.1 c.loop-from-test.true (whole c.sound_entry.ensures c.in-Whole.is)
+pub loop-rest-preserved : goal.loop-rest-preserved
+loop-rest-preserved c =
+    check-on c.args.history.now c.args.clock c.args.entries c.args.hashes c.loop-rest.rest.now c.loop-rest.left c.loop-rest.invariant
+    (commit_of c.in-Some.entry) c.in-Some.behind.now c.in-Some.ensures c.in-Some-after.after c.in-Some-after.ensures
 
 pub returns : goal.returns
-returns c = check-end c.loop-from.invariant c.requires.1 c.loop-from-test.false
+returns c =
+    check-end c.args.history.now c.args.clock c.args.entries c.args.hashes c.loop-rest.rest.now c.loop-rest.left c.loop-rest.invariant
+    (eqb-true (length c.loop-rest.rest.now) 0 (sym c.is_empty.ensures ∙ c.loop-rest-test.false))

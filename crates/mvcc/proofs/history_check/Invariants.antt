@@ -1,10 +1,10 @@
--- The invariant: the history keeps the rules where the entries from this place on keep what is left of them.
+-- The invariant: the history keeps the rules where the entries that are left keep what is left of them.
+use Rattle.std.proofs.Common.{length}
 use Rattle.mvcc.proofs.Checking.{Checking}
-use Prim.Native.Nat.{◌-◌}
 use Rattle.mvcc.proofs.history_check.Given as goal
 
-abbrev pub invariant-loop-from : goal.invariant-loop-from
-invariant-loop-from l = Checking l.s l.at l.end l.clock l.entries l.hashes l.from l.left
+abbrev pub invariant-loop-rest : goal.invariant-loop-rest
+invariant-loop-rest l = Checking l.history l.clock l.entries l.hashes l.rest l.left
 
-abbrev pub decreases-loop-from : goal.decreases-loop-from
-decreases-loop-from l = l.end - l.from
+abbrev pub decreases-loop-rest : goal.decreases-loop-rest
+decreases-loop-rest l = length l.rest

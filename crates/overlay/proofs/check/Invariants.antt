@@ -1,11 +1,11 @@
-use Prim.Native.Nat.{◌-◌, ◌≤◌}
-use Rattle.overlay.specs.Entries.{span}
-use Rattle.overlay.specs.Overlay.{overlay_in}
+use Rattle.std.proofs.Common.{◌≡◌, true, length}
+use Rattle.paper.specs.Keys.{octets}
+use Rattle.overlay.specs.Overlay.{is_overlay}
 use Rattle.overlay.proofs.Checking.{Verdict}
 use Rattle.overlay.proofs.check.Given as goal
 
-abbrev pub invariant-loop-next : goal.invariant-loop-next
-invariant-loop-next l = (l.next ≤ l.end) × (l.ps ≤ l.pe) × (l.pe ≤ l.end) × Verdict l.s l.next l.end (span l.s l.ps l.pe) (overlay_in l.s l.at l.end)
+abbrev pub invariant-loop-entry : goal.invariant-loop-entry
+invariant-loop-entry l = record { octets : octets l.rest ≡ true; verdict : Verdict l.rest l.last (is_overlay l.bytes) }
 
-abbrev pub decreases-loop-next : goal.decreases-loop-next
-decreases-loop-next l = l.end - l.next
+abbrev pub decreases-loop-entry : goal.decreases-loop-entry
+decreases-loop-entry l = length l.rest

@@ -1,43 +1,42 @@
-use native.Mathlib.Omega.{arith}
-use mathlib.Core.Path.{sym, ◌∙◌}
-use Rattle.raw.proofs.Octets.{octets-of}
-use Rattle.overlay.proofs.Putting.{Room, size_is, put_is, room-hit, room-miss}
+use Rattle.std.proofs.Common.{ap, ◌∙◌, arith}
+use Rattle.raw.specs.Bytes.{over}
+use Rattle.paper.specs.Keys.{Bytes}
+use Rattle.layout.specs.Layout.{pair_stream}
+use Rattle.overlay.specs.Overlay.{pair}
+use Rattle.overlay.proofs.Putting.{put_inside, put_size, put-is}
 use Rattle.overlay.proofs.put.Goals as goal
 
-pub splice-requires : goal.splice-requires
-splice-requires c =
-    let hit : Room c.args.s.now c.args.at c.args.end c.args.key.now c.in-At.start c.in-At.stop = room-hit c.args.s.now (octets-of c.args.s.now (λ i. omega (arith, c.slice_known-1.given i))) c.args.at c.args.end c.requires.0 c.requires.1 c.requires.2 c.args.key.now _ _ _ (sym c.in-At.is ∙ c.find.ensures) in
-    let r = hit in
-    let e = size_is c.args.s.now c.args.at c.args.end c.requires.1 c.args.key.now c.args.value.now _ _ r in
-    omega (arith, e, r.low, r.mid, r.high, c.requires)
+pub overflow_add-next-2 : goal.overflow_add-next-2
+overflow_add-next-2 c =
+    let n = put_size c.args.room.now c.args.used c.requires.0 _ c.new.ensures _ c.args.value.now _ _ c.hole-hole.ensures in
+    omega (arith, n, c.requires)
 
-pub overflow_sub-result : goal.overflow_sub-result
-overflow_sub-result c =
-    let hit : Room c.args.s.now c.args.at c.args.end c.args.key.now c.in-At.start c.in-At.stop = room-hit c.args.s.now (octets-of c.args.s.now (λ i. omega (arith, c.slice_known-1.given i))) c.args.at c.args.end c.requires.0 c.requires.1 c.requires.2 c.args.key.now _ _ _ (sym c.in-At.is ∙ c.find.ensures) in
-    let r = hit in omega (arith, r.low, c.splice.ensures.0)
+pub overflow_add-next-3 : goal.overflow_add-next-3
+overflow_add-next-3 c =
+    let n = put_size c.args.room.now c.args.used c.requires.0 _ c.new.ensures _ c.args.value.now _ _ c.hole-hole.ensures in
+    omega (arith, n, c.requires)
 
-pub splice-requires-in-Gap : goal.splice-requires-in-Gap
-splice-requires-in-Gap c =
-    let miss : Room c.args.s.now c.args.at c.args.end c.args.key.now c.in-Gap.gap c.in-Gap.gap = room-miss c.args.s.now (octets-of c.args.s.now (λ i. omega (arith, c.slice_known-1.given i))) c.args.at c.args.end c.requires.0 c.requires.1 c.requires.2 c.args.key.now _ (sym c.in-Gap.is ∙ c.find.ensures) in
-    let r = miss in
-    let e = size_is c.args.s.now c.args.at c.args.end c.requires.1 c.args.key.now c.args.value.now _ _ r in
-    omega (arith, e, r.low, r.mid, r.high, c.requires)
+pub overflow_add-result : goal.overflow_add-result
+overflow_add-result c =
+    let n = put_size c.args.room.now c.args.used c.requires.0 _ c.new.ensures _ c.args.value.now _ _ c.hole-hole.ensures in
+    omega (arith, n, c.requires)
 
-pub overflow_sub-result-in-Gap : goal.overflow_sub-result-in-Gap
-overflow_sub-result-in-Gap c =
-    let miss : Room c.args.s.now c.args.at c.args.end c.args.key.now c.in-Gap.gap c.in-Gap.gap = room-miss c.args.s.now (octets-of c.args.s.now (λ i. omega (arith, c.slice_known-1.given i))) c.args.at c.args.end c.requires.0 c.requires.1 c.requires.2 c.args.key.now _ (sym c.in-Gap.is ∙ c.find.ensures) in
-    let r = miss in omega (arith, r.low, c.splice-in-Gap.ensures.0)
+pub shift-requires : goal.shift-requires
+shift-requires c =
+    let i = put_inside c.args.room.now c.args.used c.requires.0 _ c.new.ensures _ c.args.value.now _ _ c.hole-hole.ensures in
+    let n = put_size c.args.room.now c.args.used c.requires.0 _ c.new.ensures _ c.args.value.now _ _ c.hole-hole.ensures in
+    omega (arith, i, n, c.requires)
 
-pub returns-in-At : goal.returns-in-At
-returns-in-At c =
-    let hit : Room c.args.s.now c.args.at c.args.end c.args.key.now c.in-At.start c.in-At.stop = room-hit c.args.s.now (octets-of c.args.s.now (λ i. omega (arith, c.slice_known-1.given i))) c.args.at c.args.end c.requires.0 c.requires.1 c.requires.2 c.args.key.now _ _ _ (sym c.in-At.is ∙ c.find.ensures) in
-    let r = hit in
-    let e = size_is c.args.s.now c.args.at c.args.end c.requires.1 c.args.key.now c.args.value.now _ _ r in
-    (omega (arith, e, r.low, c.splice.ensures.0), c.splice.ensures.1 ∙ put_is c.args.s.now c.args.at c.args.end c.requires.1 c.args.key.now c.args.value.now _ _ r)
+pub put_entry-requires : goal.put_entry-requires
+put_entry-requires c =
+    let n = put_size c.args.room.now c.args.used c.requires.0 _ c.new.ensures _ c.args.value.now _ _ c.hole-hole.ensures in
+    omega (arith, n, c.requires)
 
-pub returns-in-Gap : goal.returns-in-Gap
-returns-in-Gap c =
-    let miss : Room c.args.s.now c.args.at c.args.end c.args.key.now c.in-Gap.gap c.in-Gap.gap = room-miss c.args.s.now (octets-of c.args.s.now (λ i. omega (arith, c.slice_known-1.given i))) c.args.at c.args.end c.requires.0 c.requires.1 c.requires.2 c.args.key.now _ (sym c.in-Gap.is ∙ c.find.ensures) in
-    let r = miss in
-    let e = size_is c.args.s.now c.args.at c.args.end c.requires.1 c.args.key.now c.args.value.now _ _ r in
-    (omega (arith, e, r.low, c.splice-in-Gap.ensures.0), c.splice-in-Gap.ensures.1 ∙ put_is c.args.s.now c.args.at c.args.end c.requires.1 c.args.key.now c.args.value.now _ _ r)
+pub returns : goal.returns
+returns c =
+    let i = put_inside c.args.room.now c.args.used c.requires.0 _ c.new.ensures _ c.args.value.now _ _ c.hole-hole.ensures in
+    let n = put_size c.args.room.now c.args.used c.requires.0 _ c.new.ensures _ c.args.value.now _ _ c.hole-hole.ensures in (
+      n,
+      c.put_entry.ensures ∙ ap (λ (t : Bytes). over t c.hole-hole.result.start (pair_stream.put (pair c.args.key.now c.args.value.now))) c.shift.ensures
+          ∙ put-is c.args.room.now c.args.used c.requires.0 _ c.new.ensures _ c.args.value.now _ _ c.hole-hole.ensures (omega (arith, i, n, c.requires)),
+    )

@@ -14,5 +14,5 @@ use Rattle.overlay.proofs.put_entry.Goals as goal
 pub returns : goal.returns
 unfolding pair_stream via both sized plain
 returns c =
-    c.put_field-2.ensures ∙ ap (λ (t : Bytes). over t (c.args.at + 2 + length c.args.key.now) ((sized 2 plain).put c.args.value.now)) c.put_field.ensures
+    c.put_sized-2.ensures ∙ ap (λ (t : Bytes). over t (c.args.at + 2 + length c.args.key.now) ((sized 2 plain).put c.args.value.now)) c.put_sized.ensures
     ∙ over-after c.args.s.now c.args.at ((sized 2 plain).put c.args.key.now) (omega arith) (c.args.at + 2 + length c.args.key.now) ((sized 2 plain).put c.args.value.now) (omega (arith, length-append (big_endian 2 (length c.args.key.now)) c.args.key.now, length-big_endian 2 (length c.args.key.now)))

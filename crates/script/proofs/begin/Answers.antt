@@ -6,4 +6,4 @@ use Rattle.script.proofs.begin.Goals as goal
 
 pub returns : goal.returns
 returns c =
-    answer-plain Call.begin c.args.state.now c.begin-reply.new.state (told_begun c.begin-reply.result) c.begin-reply.ensures (begun-plain c.begin-reply.result) c.args.out.now c.args.at c.begun.ensures
+    answer-plain Call.begin c.args.state.now c.begin-reply.new.state (told_begun c.begin-reply.result) c.begin-reply.ensures (begun-plain c.begin-reply.result) c.begun.ensures

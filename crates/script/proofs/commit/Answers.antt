@@ -6,4 +6,4 @@ use Rattle.script.proofs.commit.Goals as goal
 
 pub returns : goal.returns
 returns c =
-    answer-plain (Call.commit c.args.handle) c.args.state.now c.commit-reply.new.state (told_committed c.commit-reply.result) c.commit-reply.ensures (committed-plain c.commit-reply.result) c.args.out.now c.args.at c.committed.ensures
+    answer-plain (Call.commit c.args.handle) c.args.state.now c.commit-reply.new.state (told_committed c.commit-reply.result) c.commit-reply.ensures (committed-plain c.commit-reply.result) c.committed.ensures

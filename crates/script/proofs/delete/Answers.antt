@@ -6,4 +6,4 @@ use Rattle.script.proofs.delete.Goals as goal
 
 pub returns : goal.returns
 returns c =
-    answer-plain (Call.delete c.args.handle c.args.key.now) c.args.state.now c.delete-reply.new.state (told_settled c.delete-reply.result) c.delete-reply.ensures (settled_plain c.delete-reply.result) c.args.out.now c.args.at c.settled.ensures
+    answer-plain (Call.delete c.args.handle c.args.key.now) c.args.state.now c.delete-reply.new.state (told_settled c.delete-reply.result) c.delete-reply.ensures (settled_plain c.delete-reply.result) c.settled.ensures

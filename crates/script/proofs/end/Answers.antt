@@ -6,4 +6,4 @@ use Rattle.script.proofs.end.Goals as goal
 
 pub returns : goal.returns
 returns c =
-    answer-plain (Call.end c.args.handle) c.args.state.now c.end-reply.new.state (told_settled c.end-reply.result) c.end-reply.ensures (settled_plain c.end-reply.result) c.args.out.now c.args.at c.settled.ensures
+    answer-plain (Call.end c.args.handle) c.args.state.now c.end-reply.new.state (told_settled c.end-reply.result) c.end-reply.ensures (settled_plain c.end-reply.result) c.settled.ensures

@@ -6,4 +6,4 @@ use Rattle.script.proofs.freeze.Goals as goal
 
 pub returns : goal.returns
 returns c =
-    answer-plain Call.freeze c.args.state.now c.freeze-reply.new.state (told_settled c.freeze-reply.result) c.freeze-reply.ensures (settled_plain c.freeze-reply.result) c.args.out.now c.args.at c.settled.ensures
+    answer-plain Call.freeze c.args.state.now c.freeze-reply.new.state (told_settled c.freeze-reply.result) c.freeze-reply.ensures (settled_plain c.freeze-reply.result) c.settled.ensures

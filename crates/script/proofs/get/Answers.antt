@@ -10,4 +10,4 @@ got-requires c =
 
 pub returns : goal.returns
 returns c =
-    get-answer c.args.handle c.args.key.now c.args.state.now c.get-reply.new.state (replicate 65535 0) c.get-reply.new.out c.get-reply.result (length-replicate {A = ℕ} 65535 0) c.get-reply.ensures c.args.out.now c.args.at c.got.ensures
+    get-answer c.args.handle c.args.key.now c.args.state.now c.get-reply.new.state (replicate 65535 0) c.get-reply.new.out c.get-reply.result (length-replicate {A = ℕ} 65535 0) c.get-reply.ensures c.got.ensures

@@ -1,12 +1,11 @@
--- The loop's invariant: what was shown, and the lines that are left, make up the whole output. The measure is what is left of the input.
-use mathlib.Core.Path.{◌≡◌}
-use Prim.Native.Nat.{◌-◌}
-use lib.ListN.{length}
+-- What was shown, and the lines that are left, make up the whole output.
+use Rattle.std.proofs.Common.{◌≡◌, length}
+use Rattle.words.specs.Lines.{lines_in}
 use Rattle.script.proofs.Running.{Running}
 use Rattle.script.proofs.lines.Given as goal
 
-abbrev pub invariant-loop-from : goal.invariant-loop-from
-invariant-loop-from l = Running l.input l.initial.state l.initial.out l.from l.number l.at l.state l.out × (length l.state ≡ length l.initial.state) × (length l.out ≡ length l.initial.out)
-
-abbrev pub decreases-loop-from : goal.decreases-loop-from
-decreases-loop-from l = length l.input - l.from
+abbrev pub invariant-loop-before : goal.invariant-loop-before
+invariant-loop-before l = record {
+  running : Running (lines_in l.input) l.initial.state l.initial.page l.before-iterator.count l.state l.page (lines_in l.before-iterator.iter.rest.now);
+  state_kept : length l.state ≡ length l.initial.state;
+}

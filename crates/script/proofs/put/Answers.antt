@@ -6,4 +6,4 @@ use Rattle.script.proofs.put.Goals as goal
 
 pub returns : goal.returns
 returns c =
-    answer-plain (Call.put c.args.handle c.args.key.now c.args.value.now) c.args.state.now c.put-reply.new.state (told_settled c.put-reply.result) c.put-reply.ensures (settled_plain c.put-reply.result) c.args.out.now c.args.at c.settled.ensures
+    answer-plain (Call.put c.args.handle c.args.key.now c.args.value.now) c.args.state.now c.put-reply.new.state (told_settled c.put-reply.result) c.put-reply.ensures (settled_plain c.put-reply.result) c.settled.ensures

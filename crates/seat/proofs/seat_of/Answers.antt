@@ -1,45 +1,44 @@
 -- The handle's place is searched; what stands there says how its transaction is.
 use native.Mathlib.Omega.{arith}
-use Rattle.raw.proofs.Octets.{octets-of}
-use Rattle.seat.proofs.Finding.{shape-room, seat-zero, seat-missing, seat-inside, seat-open, seat-closed}
+use mathlib.Core.Path.{sym, ◌∙◌}
+use Rattle.seat.proofs.Finding.{bytes_known, shape-room, seat-zero, seat-missing, seat-small, seat-inside, seat-there}
 use Rattle.seat.proofs.seat_of.Goals as goal
 
 pub returns-then-handle-eq0 : goal.returns-then-handle-eq0
-returns-then-handle-eq0 c =
-    seat-zero c.args.state.now (octets-of c.args.state.now (λ i. omega (arith, c.type_inv.state i))) c.requires.0 c.args.handle c.if-handle-eq0.true
+returns-then-handle-eq0 c = seat-zero c.args.state.now (bytes_known c.args.state.now c.type_inv.state) c.requires.0 c.args.handle c.if-handle-eq0.true
+
+pub places_in-requires : goal.places_in-requires
+places_in-requires c = (shape-room c.args.state.now (bytes_known c.args.state.now c.type_inv.state) c.requires.0 c.args.shape c.requires.1).0
 
 pub find_place-requires : goal.find_place-requires
-find_place-requires c =
-    shape-room c.args.state.now (octets-of c.args.state.now (λ i. omega (arith, c.type_inv.state i))) c.requires.0 c.args.shape c.requires.1
+find_place-requires c = (shape-room c.args.state.now (bytes_known c.args.state.now c.type_inv.state) c.requires.0 c.args.shape c.requires.1).1
 
-pub overflow_add-start : goal.overflow_add-start
-overflow_add-start c =
-    let w = seat-inside c.args.state.now (octets-of c.args.state.now (λ i. omega (arith, c.type_inv.state i))) c.requires.0 c.args.shape c.requires.1 c.args.handle (omega (arith, c.if-handle-eq0.false)) c.find_place.result c.find_place.ensures c.in-At.index c.in-At.start c.in-At.is in
+pub returns-in_err-index : goal.returns-in_err-index
+returns-in_err-index c =
+    rw c.from_residual.ensures (seat-missing c.args.state.now (bytes_known c.args.state.now c.type_inv.state) c.requires.0 c.args.shape c.requires.1 _ c.places_in.ensures c.args.handle c.if-handle-eq0.false (sym c.in_err-index.was ∙ c.find_place.ensures))
+
+pub place_at-place-requires : goal.place_at-place-requires
+place_at-place-requires c = omega (arith, seat-small c.args.state.now (bytes_known c.args.state.now c.type_inv.state) c.requires.0 c.args.shape c.requires.1 _ c.places_in.ensures c.args.handle c.if-handle-eq0.false c.in_ok-index.index (sym c.in_ok-index.was ∙ c.find_place.ensures))
+
+pub overflow_add-place : goal.overflow_add-place
+overflow_add-place c =
+    let w = seat-inside c.args.state.now (bytes_known c.args.state.now c.type_inv.state) c.requires.0 c.args.shape c.requires.1 _ c.places_in.ensures c.args.handle c.if-handle-eq0.false c.in_ok-index.index (sym c.in_ok-index.was ∙ c.find_place.ensures) _ c.place_at-place.ensures in
     omega (arith, w.1)
 
-pub be64-read-requires : goal.be64-read-requires
-be64-read-requires c =
-    let w = seat-inside c.args.state.now (octets-of c.args.state.now (λ i. omega (arith, c.type_inv.state i))) c.requires.0 c.args.shape c.requires.1 c.args.handle (omega (arith, c.if-handle-eq0.false)) c.find_place.result c.find_place.ensures c.in-At.index c.in-At.start c.in-At.is in
+pub number-requires-clause-there : goal.number-requires-clause-there
+number-requires-clause-there c =
+    let w = seat-inside c.args.state.now (bytes_known c.args.state.now c.type_inv.state) c.requires.0 c.args.shape c.requires.1 _ c.places_in.ensures c.args.handle c.if-handle-eq0.false c.in_ok-index.index (sym c.in_ok-index.was ∙ c.find_place.ensures) _ c.place_at-place.ensures in
     omega (arith, w.0)
 
-pub overflow_add-start-in-At : goal.overflow_add-start-in-At
-overflow_add-start-in-At c =
-    let w = seat-inside c.args.state.now (octets-of c.args.state.now (λ i. omega (arith, c.type_inv.state i))) c.requires.0 c.args.shape c.requires.1 c.args.handle (omega (arith, c.if-handle-eq0.false)) c.find_place.result c.find_place.ensures c.in-At.index c.in-At.start c.in-At.is in
+pub overflow_add-place-2 : goal.overflow_add-place-2
+overflow_add-place-2 c =
+    let w = seat-inside c.args.state.now (bytes_known c.args.state.now c.type_inv.state) c.requires.0 c.args.shape c.requires.1 _ c.places_in.ensures c.args.handle c.if-handle-eq0.false c.in_ok-index.index (sym c.in_ok-index.was ∙ c.find_place.ensures) _ c.place_at-place.ensures in
     omega (arith, w.1)
 
-pub be64-requires : goal.be64-requires
-be64-requires c =
-    let w = seat-inside c.args.state.now (octets-of c.args.state.now (λ i. omega (arith, c.type_inv.state i))) c.requires.0 c.args.shape c.requires.1 c.args.handle (omega (arith, c.if-handle-eq0.false)) c.find_place.result c.find_place.ensures c.in-At.index c.in-At.start c.in-At.is in
+pub number-requires-2-clause-there : goal.number-requires-2-clause-there
+number-requires-2-clause-there c =
+    let w = seat-inside c.args.state.now (bytes_known c.args.state.now c.type_inv.state) c.requires.0 c.args.shape c.requires.1 _ c.places_in.ensures c.args.handle c.if-handle-eq0.false c.in_ok-index.index (sym c.in_ok-index.was ∙ c.find_place.ensures) _ c.place_at-place.ensures in
     omega (arith, w.0)
 
-pub returns-then-be64-eq1 : goal.returns-then-be64-eq1
-returns-then-be64-eq1 c =
-    seat-open c.args.state.now (octets-of c.args.state.now (λ i. omega (arith, c.type_inv.state i))) c.requires.0 c.args.shape c.requires.1 c.args.handle (omega (arith, c.if-handle-eq0.false)) c.find_place.result c.find_place.ensures c.in-At.index c.in-At.start c.in-At.is c.be64-read.result c.be64.result c.be64-read.ensures c.be64.ensures c.if-be64-eq1.true
-
-pub returns-in-Nothing : goal.returns-in-Nothing
-returns-in-Nothing c =
-    seat-missing c.args.state.now (octets-of c.args.state.now (λ i. omega (arith, c.type_inv.state i))) c.requires.0 c.args.shape c.requires.1 c.args.handle (omega (arith, c.if-handle-eq0.false)) c.find_place.result c.find_place.ensures c.in-Nothing.is
-
-pub returns-else-be64-eq1 : goal.returns-else-be64-eq1
-returns-else-be64-eq1 c =
-    seat-closed c.args.state.now (octets-of c.args.state.now (λ i. omega (arith, c.type_inv.state i))) c.requires.0 c.args.shape c.requires.1 c.args.handle (omega (arith, c.if-handle-eq0.false)) c.find_place.result c.find_place.ensures c.in-At.index c.in-At.start c.in-At.is c.be64-read.result c.be64.result c.be64-read.ensures c.be64.ensures c.if-be64-eq1.false
+pub returns : goal.returns
+returns c = seat-there c.args.state.now (bytes_known c.args.state.now c.type_inv.state) c.requires.0 c.args.shape c.requires.1 _ c.places_in.ensures c.args.handle c.if-handle-eq0.false c.in_ok-index.index (sym c.in_ok-index.was ∙ c.find_place.ensures) _ c.place_at-place.ensures c.number.result c.number-2.result c.number.ensures.value c.number-2.ensures.value

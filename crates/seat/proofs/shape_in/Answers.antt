@@ -2,11 +2,11 @@
 use Rattle.seat.proofs.Finding.{settings-there, settings-ranged, shape-there}
 use Rattle.seat.proofs.shape_in.Goals as goal
 
-pub settings_at-requires : goal.settings_at-requires
-settings_at-requires c = settings-there c.args.state.now c.requires
+pub at-requires : goal.at-requires
+at-requires c = settings-there c.args.state.now c.requires
 
-pub shape_of-requires : goal.shape_of-requires
-shape_of-requires c = settings-ranged c.args.state.now c.requires _ c.settings_at.ensures
+pub shape-requires : goal.shape-requires
+shape-requires c = settings-ranged c.args.state.now c.requires _ c.at.ensures
 
 pub returns : goal.returns
-returns c = shape-there c.args.state.now c.requires _ c.settings_at.ensures c.shape_of.result c.shape_of.ensures
+returns c = shape-there c.args.state.now c.requires _ c.at.ensures c.shape.result c.shape.ensures

@@ -1,13 +1,9 @@
 -- A hash is in a set where the search finds its place.
-use Rattle.sets.specs.Sets.{hashes_in}
-use Rattle.sets.proofs.Inserting.{found_at, found-gap}
-use mathlib.Core.Path.{sym, ◌∙◌}
+use Rattle.std.proofs.Common.{ap, ◌∙◌}
+use Rattle.std.specs.Result.{is_ok}
+use Rattle.sets.specs.Sets.{set_hashes}
+use Rattle.sets.proofs.Inserting.{found-among}
 use Rattle.sets.proofs.among.Goals as goal
 
-pub returns-in-At : goal.returns-in-At
-returns-in-At c =
-    sym (found_at c.args.h _ (hashes_in c.args.s.now c.args.at c.args.n) (sym c.in-At.is ∙ c.find_hash.ensures))
-
-pub returns-in-Gap : goal.returns-in-Gap
-returns-in-Gap c =
-    sym (found-gap c.args.h _ (hashes_in c.args.s.now c.args.at c.args.n) (sym c.in-Gap.is ∙ c.find_hash.ensures)).0
+pub returns : goal.returns
+returns c = c.is_ok.ensures.value ∙ ap is_ok c.find_hash.ensures ∙ found-among c.args.h (set_hashes c.args.set.now)

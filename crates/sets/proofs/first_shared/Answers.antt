@@ -1,23 +1,18 @@
-use Rattle.sets.proofs.Sharing.{shares-no-more, shares-here, shares-next}
-use Rattle.sets.specs.Sets.{hashes_in}
-use mathlib.Core.Path.{refl, sym, ◌∙◌}
-use native.Mathlib.Omega.{arith}
+-- The first hash of one set that passes the test, that it is among the other.
+use Rattle.std.proofs.Common.{ℕ, List, map, ap, sym, ◌∙◌, rules}
+use Rattle.std.proofs.lemmas.Iterator.{YieldsList-from_slice, YieldsList-from_map}
+use Rattle.std.proofs.lemmas.Iterator.Consumers.{YieldsList-at}
+use Rattle.std.proofs.lemmas.Iterator.Search.{find_from_yields_List}
+use Rattle.paper.specs.Lists.{first, keep, among}
+use Rattle.paper.specs.Image.{number_from}
+use Rattle.raw.specs.Options.{said}
+use Rattle.sets.specs.Sets.{set_hashes}
+use Rattle.sets.proofs.Sharing.{first-kept, same-answer}
 use Rattle.sets.proofs.first_shared.Goals as goal
-
-pub loop-i-init : goal.loop-i-init
-loop-i-init c = (omega arith, refl)
-
-pub among-requires : goal.among-requires
-among-requires c = (c.requires.1, c.requires.2)
-
-pub returns-then-among : goal.returns-then-among
-returns-then-among c =
-    shares-here c.args.s.now c.args.a c.args.n (hashes_in c.args.s.now c.args.b c.args.m) c.loop-i.i c.loop-i.invariant.1 c.hash_at-h.result c.loop-i-test.true c.hash_at-h.ensures.0 (sym c.among.ensures ∙ c.if-among.true)
-
-pub loop-i-preserved : goal.loop-i-preserved
-loop-i-preserved c =
-    (omega arith, shares-next c.args.s.now c.args.a c.args.n (hashes_in c.args.s.now c.args.b c.args.m) c.loop-i.i c.loop-i.invariant.1 c.hash_at-h.result c.loop-i-test.true c.hash_at-h.ensures.0 (sym c.among.ensures ∙ c.if-among.false))
 
 pub returns : goal.returns
 returns c =
-    shares-no-more c.args.s.now c.args.a c.args.n (hashes_in c.args.s.now c.args.b c.args.m) c.loop-i.i c.loop-i.invariant.1 c.loop-i-test.false
+    let test = λ (h : ℕ). among h (set_hashes c.args.b.now) in
+    let run = find_from_yields_List test _ _ c.find.result c.find.ensures.ran (YieldsList-from_map _ (number_from 0) (YieldsList-at c.map.ensures.source (YieldsList-from_slice c.set_hashes.result.now c.iter.ensures.rest)) c.map.ensures.closure (λ x r q k. search rules)) (λ x b q k. search rules) in
+    ap said (sym (same-answer c.find.result) ∙ run) ∙ first-kept test (map (number_from 0) c.set_hashes.result.now)
+    ∙ ap (λ (hs : List ℕ). first (keep test hs)) c.set_hashes.ensures

@@ -4,43 +4,27 @@ use Rattle.raw.proofs.Octets.{octets-of}
 use Rattle.raw.specs.Bytes.{over}
 use Rattle.paper.specs.Image.{big_endian}
 use Rattle.paper.specs.Keys.{Bytes}
-use mathlib.Core.Path.{ap, ◌∙◌}
-use Prim.Native.Nat.{◌+◌, ◌*◌, ◌≤◌}
-use native.Mathlib.Omega.{arith}
+use Rattle.std.proofs.Common.{ap, ◌∙◌, arith}
+use Prim.Native.Nat.{◌*◌}
 use Rattle.sets.proofs.insert_hash.Goals as goal
 
 pub overflow_mul-place : goal.overflow_mul-place
-overflow_mul-place c =
-    let within : c.args.i ≤ c.args.n = gap-inside c.args.s.now c.args.at c.args.n c.args.i c.args.h c.requires.2 in
-    let w = within in omega arith
+overflow_mul-place c = let w = gap-inside c.args.room.now c.args.n c.args.i c.args.h c.requires.2 in omega arith
 
 pub overflow_add-place : goal.overflow_add-place
-overflow_add-place c =
-    let within : c.args.i ≤ c.args.n = gap-inside c.args.s.now c.args.at c.args.n c.args.i c.args.h c.requires.2 in
-    let w = within in omega arith
-
-pub overflow_add-place-2 : goal.overflow_add-place-2
-overflow_add-place-2 c =
-    let within : c.args.i ≤ c.args.n = gap-inside c.args.s.now c.args.at c.args.n c.args.i c.args.h c.requires.2 in
-    let w = within in omega arith
+overflow_add-place c = let w = gap-inside c.args.room.now c.args.n c.args.i c.args.h c.requires.2 in omega arith
 
 pub overflow_sub-n : goal.overflow_sub-n
-overflow_sub-n c =
-    let within : c.args.i ≤ c.args.n = gap-inside c.args.s.now c.args.at c.args.n c.args.i c.args.h c.requires.2 in
-    let w = within in omega arith
+overflow_sub-n c = gap-inside c.args.room.now c.args.n c.args.i c.args.h c.requires.2
 
 pub shift-requires : goal.shift-requires
-shift-requires c =
-    let within : c.args.i ≤ c.args.n = gap-inside c.args.s.now c.args.at c.args.n c.args.i c.args.h c.requires.2 in
-    let w = within in omega arith
+shift-requires c = let w = gap-inside c.args.room.now c.args.n c.args.i c.args.h c.requires.2 in omega arith
 
-pub put_be32-requires : goal.put_be32-requires
-put_be32-requires c =
-    let within : c.args.i ≤ c.args.n = gap-inside c.args.s.now c.args.at c.args.n c.args.i c.args.h c.requires.2 in
-    let w = within in omega arith
+pub put_number-requires : goal.put_number-requires
+put_number-requires c = let w = gap-inside c.args.room.now c.args.n c.args.i c.args.h c.requires.2 in omega arith
 
 pub returns : goal.returns
 returns c =
-    c.put_be32.ensures
-    ∙ ap (λ (t : Bytes). over t (c.args.at + 4 * c.args.i) (big_endian 4 c.args.h)) c.shift.ensures
-    ∙ written_new c.args.s.now c.args.at c.args.n c.args.i c.args.h (octets-of c.args.s.now (λ i. omega (arith, c.slice_known-1.given i))) c.requires.0 c.requires.1 c.requires.2
+    c.put_number.ensures
+    ∙ ap (λ (t : Bytes). over t (4 * c.args.i) (big_endian 4 c.args.h)) c.shift.ensures
+    ∙ written_new c.args.room.now c.args.n c.args.i c.args.h (octets-of c.args.room.now (λ i. omega (arith, c.slice_known-1.given i))) c.requires.0 c.requires.1 c.requires.2

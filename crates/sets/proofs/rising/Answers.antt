@@ -1,25 +1,22 @@
-use Rattle.sets.proofs.Risings.{pos, none-rise, pass-start, pass_on, pass-stop, pass-end}
-use native.Mathlib.Omega.{arith}
+-- Each pair of neighbours is asked, and the hashes rise where each is below the next.
+use Rattle.std.proofs.Common.{◌/◌, length, ltb, ap, sym, ◌∙◌, rules, tests, arith}
+use Rattle.raw.proofs.Octets.{octets-of}
+use Rattle.sets.proofs.Hashes.{set-of}
+use Rattle.std.proofs.lemmas.List.Sorted.{answers_always}
+use Rattle.paper.specs.Lists.{rises}
+use Rattle.paper.specs.Image.{number_from}
+use Prim.Native.Nat.{compare}
+use Rattle.sets.proofs.Risings.{neighbours-rise}
 use Rattle.sets.proofs.rising.Goals as goal
 
-pub returns-then-n-eq0 : goal.returns-then-n-eq0
-returns-then-n-eq0 c = none-rise c.args.s.now c.args.at c.args.n c.if-n-eq0.true
+pub returns-clause-rises : goal.returns-clause-rises
+returns-clause-rises c =
+    neighbours-rise (number_from 0) c.set_hashes.result.now _ (c.is_sorted_by.ensures.cases (λ a b. ltb (number_from 0 a) (number_from 0 b)) (answers_always _ _ _ (λ f a r g called. search (rules, tests))))
+    ∙ ap (rises compare) c.set_hashes.ensures
 
-pub hash_at-last-requires : goal.hash_at-last-requires
-hash_at-last-requires c = let z = pos c.args.n c.if-n-eq0.false in omega arith
-
-pub loop-i-init : goal.loop-i-init
-loop-i-init c =
-    (omega arith, pass-start c.args.s.now c.args.at c.args.n c.hash_at-last.result (pos c.args.n c.if-n-eq0.false) c.hash_at-last.ensures.0)
-
-pub returns-then-h-last : goal.returns-then-h-last
-returns-then-h-last c =
-    pass-stop c.args.s.now c.args.at c.args.n c.loop-i.last c.loop-i.i c.hash_at-h.result c.loop-i.invariant.1 c.loop-i-test.true c.hash_at-h.ensures.0 c.if-h-last.true
-
-pub loop-i-preserved : goal.loop-i-preserved
-loop-i-preserved c =
-    (omega arith, pass_on c.args.s.now c.args.at c.args.n c.loop-i.last c.loop-i.i c.hash_at-h.result c.loop-i.invariant.1 c.loop-i-test.true c.hash_at-h.ensures.0 c.if-h-last.false)
-
-pub returns : goal.returns
-returns c =
-    pass-end c.args.s.now c.args.at c.args.n c.loop-i.last c.loop-i.i c.loop-i.invariant.1 c.loop-i-test.false
+pub returns-clause-set : goal.returns-clause-set
+returns-clause-set c =
+    let set = c.args.set.now in
+    neighbours-rise (number_from 0) c.set_hashes.result.now _ (c.is_sorted_by.ensures.cases (λ a b. ltb (number_from 0 a) (number_from 0 b)) (answers_always _ _ _ (λ f a r g called. search (rules, tests))))
+    ∙ ap (rises compare) c.set_hashes.ensures
+    ∙ sym (set-of (length set / 4) set (octets-of set (λ i. omega (arith, c.type_inv.set i))) (omega arith))

@@ -1,17 +1,13 @@
--- The check, and then the call on a sound state.
-use mathlib.Core.Path.{refl, sym, ◌∙◌}
+-- 9, and nothing else changes.
+use mathlib.Core.Path.{refl}
+use Rattle.std.proofs.lemmas.Result.{err_from_is_err_and}
 use Rattle.paper.specs.Calls.{Call}
 use Rattle.layout.specs.Runs.{is_opening}
 use Rattle.store.proofs.Unsound.{refused}
 use Rattle.store.proofs.begin.Goals as goal
 
-pub returns-then-not-sound_state : goal.returns-then-not-sound_state
+pub returns-in_err-sound : goal.returns-in_err-sound
 unfolding is_opening
-returns-then-not-sound_state c =
-    refused (Call.begin) c.args.state.now refl c.sound_state.result c.sound_state.ensures c.if-not-sound_state.true
-
-pub begin-requires : goal.begin-requires
-begin-requires c = sym c.sound_state.ensures ∙ c.if-not-sound_state.false
-
-pub returns : goal.returns
-returns c = c.begin.ensures
+returns-in_err-sound c =
+    let p = err_from_is_err_and c.from_residual.result c.from_residual.ensures.1 in
+    rw (p.1, p.2) (refused Call.begin c.args.state.now refl _ c.in_err-sound.ensures)

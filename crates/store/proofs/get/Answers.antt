@@ -1,19 +1,16 @@
--- The check, and then the call on a sound state.
-use mathlib.Core.Path.{refl, sym, ◌∙◌}
+-- 9, and nothing else changes.
+use mathlib.Core.Path.{refl}
+use Rattle.std.proofs.lemmas.Result.{err_from_is_err_and}
 use Rattle.layout.specs.Runs.{is_opening}
 use Rattle.store.specs.Asked.{get_of}
 use Rattle.store.proofs.Unsound.{refused, refused-value}
 use Rattle.store.proofs.get.Goals as goal
 
-pub returns-then-not-sound_state : goal.returns-then-not-sound_state
+pub returns-in_err-sound : goal.returns-in_err-sound
 unfolding is_opening
-returns-then-not-sound_state c =
-    let k = get_of c.args.handle c.args.key.now c.args.out.now in
-    let n = c.if-not-sound_state.true in
-    (refused k c.args.state.now refl c.sound_state.result c.sound_state.ensures n, refused-value k c.args.state.now refl c.sound_state.result c.sound_state.ensures n c.args.out.now)
-
-pub get-requires : goal.get-requires
-get-requires c = sym c.sound_state.ensures ∙ c.if-not-sound_state.false
-
-pub returns : goal.returns
-returns c = c.get.ensures
+returns-in_err-sound c =
+    let p = err_from_is_err_and c.from_residual.result c.from_residual.ensures.1 in
+    let asked = get_of c.args.handle c.args.key.now c.args.out.now in
+    let refusal = refused asked c.args.state.now refl _ c.in_err-sound.ensures in
+    let value = refused-value asked c.args.state.now refl _ c.in_err-sound.ensures c.args.out.now in
+    rw (p.1, p.2) (refusal, value)

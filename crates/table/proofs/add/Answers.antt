@@ -1,72 +1,52 @@
 -- A count that rises, or a row put in.
 use mathlib.Core.Bool.{true}
 use native.Mathlib.Omega.{arith}
-use Prim.Native.Nat.{◌+◌, ◌*◌, ◌≤◌}
 use mathlib.Core.Path.{◌≡◌, sym, ◌∙◌}
 use Rattle.paper.specs.Keys.{Bytes, octets}
-use lib.ListN.{length}
 use Rattle.raw.proofs.Octets.{octets-of}
-use Rattle.table.specs.Rows.{rows_in, Rowed, spot_of}
-use Rattle.table.specs.declared.Spot.TheVariants.{Here, Gap}
 use Rattle.table.proofs.RowSpots.{here-within, here-more, here-add, gap-holds, gap-room, gap-add}
 use Rattle.table.proofs.add.Goals as goal
 
-pub overflow_mul-k : goal.overflow_mul-k
-overflow_mul-k c =
+pub overflow_mul-spot : goal.overflow_mul-spot
+overflow_mul-spot c =
     let b : Bytes = c.args.region.now in
     let y : octets b ≡ true = octets-of b (λ i. omega (arith, c.slice_known-1.given i)) in
-    let W : Rowed b = c.requires.0 in
-    let here : Here c.in-Here.k c.in-Here.n c.in-Here.count ≡ spot_of c.args.t (rows_in b) = sym c.in-Here.is ∙ c.spot_of.ensures in
-    let within : 24 + 16 * c.in-Here.k ≤ length b = here-within b y W _ _ _ _ here in
-    omega (arith, within, c.well_formed)
+    omega (arith, here-within b y c.requires.0 c.args.t c.in-Ok.spot (sym c.in-Ok.is ∙ c.spot_of.ensures), c.well_formed)
 
-pub overflow_add-k : goal.overflow_add-k
-overflow_add-k c =
+pub overflow_add-spot : goal.overflow_add-spot
+overflow_add-spot c =
     let b : Bytes = c.args.region.now in
     let y : octets b ≡ true = octets-of b (λ i. omega (arith, c.slice_known-1.given i)) in
-    let W : Rowed b = c.requires.0 in
-    let here : Here c.in-Here.k c.in-Here.n c.in-Here.count ≡ spot_of c.args.t (rows_in b) = sym c.in-Here.is ∙ c.spot_of.ensures in
-    let within : 24 + 16 * c.in-Here.k ≤ length b = here-within b y W _ _ _ _ here in
-    omega (arith, within, c.well_formed)
+    omega (arith, here-within b y c.requires.0 c.args.t c.in-Ok.spot (sym c.in-Ok.is ∙ c.spot_of.ensures), c.well_formed)
 
-pub overflow_add-count : goal.overflow_add-count
-overflow_add-count c =
+pub put_number-requires-clause-there : goal.put_number-requires-clause-there
+put_number-requires-clause-there c =
     let b : Bytes = c.args.region.now in
     let y : octets b ≡ true = octets-of b (λ i. omega (arith, c.slice_known-1.given i)) in
-    let W : Rowed b = c.requires.0 in
-    let here : Here c.in-Here.k c.in-Here.n c.in-Here.count ≡ spot_of c.args.t (rows_in b) = sym c.in-Here.is ∙ c.spot_of.ensures in
-    omega (arith, here-more b y W _ _ _ _ here c.requires.1)
+    omega (arith, here-within b y c.requires.0 c.args.t c.in-Ok.spot (sym c.in-Ok.is ∙ c.spot_of.ensures), c.well_formed)
 
-pub put_be64-requires : goal.put_be64-requires
-put_be64-requires c =
+pub overflow_add-spot-in-Ok : goal.overflow_add-spot-in-Ok
+overflow_add-spot-in-Ok c =
     let b : Bytes = c.args.region.now in
     let y : octets b ≡ true = octets-of b (λ i. omega (arith, c.slice_known-1.given i)) in
-    let W : Rowed b = c.requires.0 in
-    let here : Here c.in-Here.k c.in-Here.n c.in-Here.count ≡ spot_of c.args.t (rows_in b) = sym c.in-Here.is ∙ c.spot_of.ensures in
-    let within : 24 + 16 * c.in-Here.k ≤ length b = here-within b y W _ _ _ _ here in
-    omega (arith, within)
+    omega (arith, here-more b y c.requires.0 c.args.t c.in-Ok.spot (sym c.in-Ok.is ∙ c.spot_of.ensures) c.requires.1)
 
 pub insert_row-requires : goal.insert_row-requires
 insert_row-requires c =
     let b : Bytes = c.args.region.now in
     let y : octets b ≡ true = octets-of b (λ i. omega (arith, c.slice_known-1.given i)) in
-    let W : Rowed b = c.requires.0 in
-    let gap : Gap c.in-Gap.k c.in-Gap.n ≡ spot_of c.args.t (rows_in b) = sym c.in-Gap.is ∙ c.spot_of.ensures in
-    let h = gap-holds b y W _ _ _ gap in
-    (h.0, h.1, gap-room b y W _ _ _ gap c.requires.1)
+    let e = sym c.in-Err.is ∙ c.spot_of.ensures in
+    let h = gap-holds b y c.requires.0 c.args.t c.in-Err.gap e in
+    (h.0, h.1, gap-room b y c.requires.0 c.args.t c.in-Err.gap e c.requires.1)
 
-pub returns-in-Here : goal.returns-in-Here
-returns-in-Here c =
+pub returns-in-Ok : goal.returns-in-Ok
+returns-in-Ok c =
     let b : Bytes = c.args.region.now in
     let y : octets b ≡ true = octets-of b (λ i. omega (arith, c.slice_known-1.given i)) in
-    let W : Rowed b = c.requires.0 in
-    let here : Here c.in-Here.k c.in-Here.n c.in-Here.count ≡ spot_of c.args.t (rows_in b) = sym c.in-Here.is ∙ c.spot_of.ensures in
-    c.put_be64.ensures ∙ here-add b y W _ _ _ _ here
+    c.put_number.ensures ∙ here-add b y c.requires.0 c.args.t c.in-Ok.spot (sym c.in-Ok.is ∙ c.spot_of.ensures)
 
-pub returns-in-Gap : goal.returns-in-Gap
-returns-in-Gap c =
+pub returns-in-Err : goal.returns-in-Err
+returns-in-Err c =
     let b : Bytes = c.args.region.now in
     let y : octets b ≡ true = octets-of b (λ i. omega (arith, c.slice_known-1.given i)) in
-    let W : Rowed b = c.requires.0 in
-    let gap : Gap c.in-Gap.k c.in-Gap.n ≡ spot_of c.args.t (rows_in b) = sym c.in-Gap.is ∙ c.spot_of.ensures in
-    c.insert_row.ensures ∙ gap-add b y W _ _ _ gap
+    c.insert_row.ensures ∙ gap-add b y c.requires.0 c.args.t c.in-Err.gap (sym c.in-Err.is ∙ c.spot_of.ensures)

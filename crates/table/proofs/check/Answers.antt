@@ -1,61 +1,44 @@
 -- Where t has a row its count decides, and where it has none the room does.
-use borrow.Author.Tests.{lt-ltb, le-ltb}
 use native.Mathlib.Omega.{arith}
-use mathlib.Core.Path.{◌≡◌, sym, ap, ◌∙◌}
-use mathlib.Core.Bool.{Bool, true, cond}
+use mathlib.Core.Path.{◌≡◌, sym, ◌∙◌}
+use mathlib.Core.Bool.{true}
 use Rattle.paper.specs.Keys.{Bytes, octets}
-use Rattle.paper.specs.Settings.{most_number}
 use Rattle.raw.proofs.Octets.{octets-of}
-use Rattle.table.specs.Rows.{rows_in, Rowed, spot_of}
-use Rattle.table.specs.declared.Spot.TheVariants.{Here, Gap}
-use Rattle.table.specs.declared.RowCheck.TheVariants.{Fine, Most}
-use Rattle.table.proofs.RowSpots.{here-check, here-fits, gap-holds, gap-full, gap-fine}
+use Rattle.table.proofs.RowSpots.{here-most, here-fine, gap-holds, gap-full, gap-fine}
 use Rattle.table.proofs.check.Goals as goal
 
-pub overflow_mul-n : goal.overflow_mul-n
-overflow_mul-n c =
+pub overflow_mul-gap : goal.overflow_mul-gap
+overflow_mul-gap c =
     let b : Bytes = c.args.region.now in
     let y : octets b ≡ true = octets-of b (λ i. omega (arith, c.type_inv.region i)) in
-    let W : Rowed b = c.requires in
-    let gap : Gap c.in-Gap.k c.in-Gap.n ≡ spot_of c.args.t (rows_in b) = sym c.in-Gap.is ∙ c.spot_of.ensures in
-    omega (arith, (gap-holds b y W _ _ _ gap).0.fits, c.well_formed)
+    omega (arith, (gap-holds b y c.requires c.args.t c.in-Err.gap (sym c.in-Err.is ∙ c.spot_of.ensures)).0.fits, c.well_formed)
 
-pub overflow_add-n : goal.overflow_add-n
-overflow_add-n c =
+pub overflow_add-gap : goal.overflow_add-gap
+overflow_add-gap c =
     let b : Bytes = c.args.region.now in
     let y : octets b ≡ true = octets-of b (λ i. omega (arith, c.type_inv.region i)) in
-    let W : Rowed b = c.requires in
-    let gap : Gap c.in-Gap.k c.in-Gap.n ≡ spot_of c.args.t (rows_in b) = sym c.in-Gap.is ∙ c.spot_of.ensures in
-    omega (arith, (gap-holds b y W _ _ _ gap).0.fits, c.well_formed)
+    omega (arith, (gap-holds b y c.requires c.args.t c.in-Err.gap (sym c.in-Err.is ∙ c.spot_of.ensures)).0.fits, c.well_formed)
 
-pub returns-then-count : goal.returns-then-count
-returns-then-count c =
+pub returns-in-Ok : goal.returns-in-Ok
+returns-in-Ok c =
     let b : Bytes = c.args.region.now in
     let y : octets b ≡ true = octets-of b (λ i. omega (arith, c.type_inv.region i)) in
-    let W : Rowed b = c.requires in
-    let here : Here c.in-Here.k c.in-Here.n c.in-Here.count ≡ spot_of c.args.t (rows_in b) = sym c.in-Here.is ∙ c.spot_of.ensures in
-    sym (here-check b y W _ _ _ _ here ∙ ap (λ (p : Bool). cond p Fine Most) (le-ltb c.in-Here.count most_number (omega arith)))
+    here-most b y c.requires c.args.t _ (sym c.in-Ok.is ∙ c.spot_of.ensures) (c.if-spot.true)
 
-pub returns-else-count : goal.returns-else-count
-returns-else-count c =
+pub returns-in-Err : goal.returns-in-Err
+returns-in-Err c =
     let b : Bytes = c.args.region.now in
     let y : octets b ≡ true = octets-of b (λ i. omega (arith, c.type_inv.region i)) in
-    let W : Rowed b = c.requires in
-    let here : Here c.in-Here.k c.in-Here.n c.in-Here.count ≡ spot_of c.args.t (rows_in b) = sym c.in-Here.is ∙ c.spot_of.ensures in
-    sym (here-check b y W _ _ _ _ here ∙ ap (λ (p : Bool). cond p Fine Most) (lt-ltb c.in-Here.count most_number (omega (arith, here-fits b y W _ _ _ _ here))))
+    gap-full b y c.requires c.args.t _ (sym c.in-Err.is ∙ c.spot_of.ensures) (omega arith)
 
-pub returns-then-region-n : goal.returns-then-region-n
-returns-then-region-n c =
+pub returns-in_default : goal.returns-in_default
+returns-in_default c =
     let b : Bytes = c.args.region.now in
     let y : octets b ≡ true = octets-of b (λ i. omega (arith, c.type_inv.region i)) in
-    let W : Rowed b = c.requires in
-    let gap : Gap c.in-Gap.k c.in-Gap.n ≡ spot_of c.args.t (rows_in b) = sym c.in-Gap.is ∙ c.spot_of.ensures in
-    gap-full b y W _ _ _ gap (omega arith)
+    here-fine b y c.requires c.args.t _ (sym c.in-Ok.is ∙ c.spot_of.ensures) c.if-spot.false
 
-pub returns-else-region-n : goal.returns-else-region-n
-returns-else-region-n c =
+pub returns-in_default-2 : goal.returns-in_default-2
+returns-in_default-2 c =
     let b : Bytes = c.args.region.now in
     let y : octets b ≡ true = octets-of b (λ i. omega (arith, c.type_inv.region i)) in
-    let W : Rowed b = c.requires in
-    let gap : Gap c.in-Gap.k c.in-Gap.n ≡ spot_of c.args.t (rows_in b) = sym c.in-Gap.is ∙ c.spot_of.ensures in
-    gap-fine b y W _ _ _ gap (omega arith)
+    gap-fine b y c.requires c.args.t _ (sym c.in-Err.is ∙ c.spot_of.ensures) (omega arith)

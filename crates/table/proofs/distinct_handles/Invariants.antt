@@ -1,12 +1,13 @@
 -- The invariant: the handles of all places are distinct where those of the places that are left are.
-use Prim.Native.Nat.{◌+◌, ◌*◌, ◌≤◌}
+use Prim.Native.Nat.{◌/◌}
 use mathlib.Core.Path.{◌≡◌}
+use lib.ListN.{length}
 use Rattle.paper.specs.Sound.{distinct}
 use Rattle.table.specs.Places.{handles_in}
 use Rattle.table.proofs.distinct_handles.Given as goal
 
-abbrev pub invariant-loop-left : goal.invariant-loop-left
-invariant-loop-left l = (l.left ≤ l.count) × (l.at + l.left * l.stride ≡ l.places + l.count * l.stride) × (distinct (handles_in l.state l.places l.stride l.count) ≡ distinct (handles_in l.state l.at l.stride l.left))
+abbrev pub invariant-loop-place : goal.invariant-loop-place
+invariant-loop-place l = distinct (handles_in l.places 0 l.stride (length l.places / l.stride)) ≡ distinct (handles_in l.left 0 l.stride (length l.left / l.stride))
 
-abbrev pub decreases-loop-left : goal.decreases-loop-left
-decreases-loop-left l = l.left
+abbrev pub decreases-loop-place : goal.decreases-loop-place
+decreases-loop-place l = length l.left

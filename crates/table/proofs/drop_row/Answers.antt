@@ -7,6 +7,7 @@ use Rattle.table.proofs.drop_row.Goals as goal
 
 pub returns : goal.returns
 returns c =
-    let R = region c.args.region.now (octets-of c.args.region.now (λ i. omega (arith, c.slice_known-1.given i))) c.requires.0.reads in
-    let e : c.put_be64.new.s ≡ dropped c.args.region.now c.args.k c.args.n = cc in
-    e ∙ ap (dropped c.args.region.now c.args.k) c.requires.0.many ∙ gone c.args.region.now R c.args.k (omega arith)
+    let b = c.args.region.now in
+    let R = region b (octets-of b (λ i. omega (arith, c.slice_known-1.given i))) c.requires.0.reads in
+    let e : c.put_number.new.s ≡ dropped b c.args.k c.args.n = cc in
+    e ∙ ap (dropped b c.args.k) c.requires.0.many ∙ gone b R c.args.k (omega arith)

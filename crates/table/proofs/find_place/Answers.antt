@@ -1,34 +1,14 @@
-use Prim.Native.Nat.{◌+◌, ◌*◌}
-use native.Mathlib.Nat.{suc-mul, zero-mul}
-use native.Mathlib.Numerals.{add-one}
+-- The place at which `position` finds the tag is the first with it.
 use native.Mathlib.Omega.{arith}
-use mathlib.Core.Path.{◌≡◌, sym, ap, ◌∙◌, subst}
-use borrow.Author.Count.{below_more, below_none}
-use Rattle.table.specs.Places.{tag_at}
-use Rattle.table.specs.declared.Found.TheVariants.{At}
-use Rattle.table.proofs.Tags.{step, Passed, found_at, found_none}
+use mathlib.Core.Path.{◌∙◌}
+use borrow.Author.Rules.{rules}
+use borrow.Author.Tests.{tests}
+use Rattle.std.proofs.lemmas.Iterator.Search.{position_from_yields_List}
+use Rattle.table.proofs.Seats.{with_tag, seats-yielded, found-seat}
 use Rattle.table.proofs.find_place.Goals as goal
-
-pub loop-i-init : goal.loop-i-init
-loop-i-init c = (omega arith, omega (arith, zero-mul c.args.stride), below_none _)
-
-pub be64-requires : goal.be64-requires
-be64-requires c = omega (arith, step c.loop-i.i c.args.count c.args.stride (omega arith))
-
-pub returns-then-be64-tag : goal.returns-then-be64-tag
-returns-then-be64-tag c =
-    let e : tag_at c.args.state.now (c.args.places + c.loop-i.i * c.args.stride) ≡ c.args.tag =
-    ap (tag_at c.args.state.now) (sym c.loop-i.invariant.1) ∙ sym c.be64.ensures ∙ c.if-be64-tag.true in
-    ap (At c.loop-i.i) c.loop-i.invariant.1 ∙ found_at c.args.state.now c.args.stride c.args.tag c.args.count c.args.places c.loop-i.i (omega arith) c.loop-i.invariant.2 e
-
-pub overflow_add-at : goal.overflow_add-at
-overflow_add-at c = omega (arith, step c.loop-i.i c.args.count c.args.stride (omega arith))
-
-pub loop-i-preserved : goal.loop-i-preserved
-loop-i-preserved c =
-    (omega arith, rw (add-one, suc-mul) (omega arith), below_more _ _ c.loop-i.invariant.2 (λ e. c.if-be64-tag.false (c.be64.ensures ∙ ap (tag_at c.args.state.now) c.loop-i.invariant.1 ∙ e)))
 
 pub returns : goal.returns
 returns c =
-    let e : c.loop-i.i ≡ c.args.count = omega arith in
-    found_none c.args.state.now c.args.stride c.args.tag c.args.count c.args.places (subst (Passed c.args.state.now c.args.stride c.args.tag c.args.places) e c.loop-i.invariant.2)
+    let b = c.args.places.now in
+    position_from_yields_List (with_tag c.args.tag) _ _ _ c.position.ensures.ran (seats-yielded c.args.stride b (omega arith) c.chunks_exact.ensures.size c.chunks_exact.ensures.rest) (λ x r q k. search (rules, tests))
+    ∙ found-seat c.args.tag b c.args.stride c.requires

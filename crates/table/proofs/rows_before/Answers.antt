@@ -1,24 +1,25 @@
-use borrow.Author.Count.{below_more, below_none}
+-- The rows that `take_while` lets through are those before t.
+use Prim.Native.Nat.{◌+◌, ◌*◌, ◌-◌}
 use native.Mathlib.Omega.{arith}
+use mathlib.Core.Path.{◌∙◌}
+use lib.Dec.{lit<, ltb}
+use borrow.Author.Rules.{rules}
+use borrow.Author.Tests.{tests}
+use Rattle.std.proofs.lemmas.Iterator.Consumers.{count_from_yields_List, YieldsList-at}
+use Rattle.std.proofs.lemmas.Iterator.Search.{YieldsList-from_take_while}
+use Rattle.std.proofs.lemmas.List.Folds.{length-prefix_len}
+use Rattle.raw.specs.Bytes.{part}
 use Rattle.raw.proofs.Octets.{octets-of}
-use Rattle.table.specs.Rows.{rows_in}
-use Rattle.table.proofs.RowLaws.{before-is}
-use Rattle.table.proofs.RowBytes.{Region, region, time-at}
+use Rattle.table.proofs.Seats.{seats, tag_of, seats-yielded}
+use Rattle.table.proofs.RowBytes.{region, before-seats}
 use Rattle.table.proofs.rows_before.Goals as goal
-
-pub loop-k-init : goal.loop-k-init
-loop-k-init c = (omega arith, below_none _)
-
-pub returns-then-t-be64 : goal.returns-then-t-be64
-returns-then-t-be64 c =
-    let ground : Region c.args.region.now = region c.args.region.now (octets-of _ (λ i. omega (arith, c.type_inv.region i))) c.requires.reads in
-    before-is c.args.t (rows_in c.args.region.now) c.loop-k.k (omega arith) c.loop-k.invariant.1 (λ h. omega (arith, c.be64.ensures, time-at c.args.region.now ground c.loop-k.k h))
-
-pub loop-k-preserved : goal.loop-k-preserved
-loop-k-preserved c =
-    let ground : Region c.args.region.now = region c.args.region.now (octets-of _ (λ i. omega (arith, c.type_inv.region i))) c.requires.reads in
-    (omega arith, below_more _ _ c.loop-k.invariant.1 (omega (arith, c.be64.ensures, time-at c.args.region.now ground c.loop-k.k (omega arith))))
 
 pub returns : goal.returns
 returns c =
-    before-is c.args.t (rows_in c.args.region.now) c.loop-k.k (omega arith) c.loop-k.invariant.1 (λ h. absurd (omega arith))
+    let b = c.args.region.now in
+    let m = 8 + 16 * c.args.n - 8 in
+    let R = region b (octets-of b (λ i. omega (arith, c.type_inv.region i))) c.requires.reads in
+    count_from_yields_List c.take_while.result _ c.count.ensures.ran
+    (YieldsList-from_take_while _ (λ q. ltb (tag_of q) c.args.t) (YieldsList-at c.take_while.ensures.source (seats-yielded 16 (part b 8 m) (lit< tt) c.chunks_exact.ensures.size c.chunks_exact.ensures.rest)) c.take_while.ensures.closure c.take_while.ensures.done (λ x r q k. search (rules, tests)))
+    ∙ length-prefix_len (λ q. ltb (tag_of q) c.args.t) (seats 16 (part b 8 m))
+    ∙ before-seats b R c.args.t m (omega (arith, c.requires.many))

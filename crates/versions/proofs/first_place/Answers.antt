@@ -1,17 +1,13 @@
-use native.Mathlib.Omega.{arith}
-use Rattle.raw.proofs.Octets.{octets-of}
-use Rattle.versions.proofs.Entries.{entry-there}
-use Rattle.versions.proofs.Splitting.{none-parted, parted}
+use Rattle.std.proofs.Common.{arith}
+use Rattle.versions.proofs.Absorbing.{seek-whole, none-parted, first-parted, own-rise}
 use Rattle.versions.proofs.first_place.Goals as goal
 
-pub returns-then-stop-own : goal.returns-then-stop-own
-returns-then-stop-own c =
-    none-parted c.args.s.now (octets-of c.args.s.now (λ i. omega (arith, c.type_inv.s i))) c.args.at c.args.end c.args.own c.args.stop c.args.number c.requires c.if-stop-own.true
+pub seek-requires : goal.seek-requires
+seek-requires c = (omega arith, omega arith, seek-whole c.args.records.now c.requires.0)
 
-pub pair_at-entry-requires : goal.pair_at-entry-requires
-pair_at-entry-requires c =
-    (c.requires.inside, entry-there c.args.s.now (octets-of c.args.s.now (λ i. omega (arith, c.type_inv.s i))) c.args.own c.args.stop c.requires.inside c.requires.entries c.if-stop-own.false)
+pub returns-in_default : goal.returns-in_default
+returns-in_default c = none-parted c.args.records.now c.requires.0 c.args.number c.requires.1 _ c.in_default.ensures.steps.0
 
 pub returns : goal.returns
 returns c =
-    parted c.args.s.now (octets-of c.args.s.now (λ i. omega (arith, c.type_inv.s i))) c.args.at c.args.end c.args.own c.args.stop c.args.number c.requires c.if-stop-own.false c.pair_at-entry.result.ke c.pair_at-entry.result.ve c.pair_at-entry.ensures c.place_of.result c.place_of.ensures
+    first-parted c.args.records.now c.requires.0 c.args.number c.requires.1 _ _ _ c.in-Some.ensures.steps (own-rise c.args.own) c.seek.result (rw c.new.ensures at c.seek.ensures)

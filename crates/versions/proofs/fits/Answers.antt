@@ -1,12 +1,18 @@
-use native.Mathlib.Omega.{arith}
-use Rattle.raw.proofs.Octets.{octets-of}
-use Rattle.versions.proofs.Counting.{fits_not, fits-is}
+use Rattle.std.proofs.Common.{◌≡◌, length, inl, sym, arith}
+use Rattle.std.proofs.lemmas.Grind.{common_steps}
+use Rattle.overlay.specs.Overlay.{pairs_in}
+use Rattle.versions.proofs.Counting.{fits_verdict}
+use Rattle.versions.proofs.Absorbing.{own-rise, own-long, own-few, own-count}
 use Rattle.versions.proofs.fits.Goals as goal
 
-pub returns-then-room-used : goal.returns-then-room-used
-returns-then-room-used c =
-    fits_not c.args.s.now (octets-of c.args.s.now (λ i. omega (arith, c.type_inv.s i))) c.args.at c.args.end c.args.own c.args.stop c.args.number c.requires c.args.room c.if-room-used.true
+pub count-requires-clause-fits : goal.count-requires-clause-fits
+count-requires-clause-fits c = inl (omega (arith, own-few c.args.own, c.ranges.own))
 
-pub returns : goal.returns
-returns c =
-    fits-is c.args.s.now (octets-of c.args.s.now (λ i. omega (arith, c.type_inv.s i))) c.args.at c.args.end c.args.own c.args.stop c.args.number c.requires c.args.room c.count_own.result c.if-room-used.false c.count_own.ensures
+pub returns-then-used-room : goal.returns-then-used-room
+returns-then-used-room c =
+    let n : c.count.result ≡ length (pairs_in c.args.own.bytes.now) = own-count c.args.own c.count.result c.count.ensures.ran in
+    rw (fits_verdict c.args.records.now c.requires.0 c.args.number c.requires.1 (pairs_in c.args.own.bytes.now) (own-rise c.args.own) (length c.args.own.bytes.now) c.args.room (sym (own-long c.args.own))) (grind (arith, common_steps))
+
+pub returns-else-used-room : goal.returns-else-used-room
+returns-else-used-room c =
+    rw (fits_verdict c.args.records.now c.requires.0 c.args.number c.requires.1 (pairs_in c.args.own.bytes.now) (own-rise c.args.own) (length c.args.own.bytes.now) c.args.room (sym (own-long c.args.own))) (grind (arith, common_steps))

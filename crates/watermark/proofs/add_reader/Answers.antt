@@ -1,35 +1,55 @@
--- `watermark::add_reader` meets its contract: what was decided is what the paper's call does, and each slice is written by it.
-use Rattle.watermark.proofs.Answers.{add-of}
-use Rattle.watermark.proofs.Fronts.{times-in, counts-in}
-use Rattle.watermark.proofs.Plans.{AddWay, add-says, add-within, add-writes}
-use Rattle.watermark.specs.Pass.{adding_of}
-use Rattle.watermark.specs.Table.{rows_in, room_in}
-use Rattle.paper.specs.Calls.{try_add_row}
+-- The pass, what was decided, and what was written.
+use Rattle.std.proofs.Common.{get_or, refl, ap, ◌∙◌, arith}
+use Rattle.std.proofs.lemmas.Result.{err_from_is_err_and}
 use Rattle.paper.specs.Readers.{row}
-use lib.ListN.{get_or}
-use mathlib.Core.Path.{◌∙◌, ap}
-use native.Mathlib.Omega.{arith}
+use Rattle.paper.specs.Refusals.{go}
+use Rattle.watermark.specs.Table.{room_in}
+use Rattle.watermark.specs.Pass.{adding_of}
+use Rattle.watermark.proofs.Plans.{add-stops, add-within, add-writes}
+use Rattle.watermark.proofs.Fronts.{times-in, counts-in}
+use Rattle.watermark.proofs.Answers.{add-of, add-said, counted-below, add-stops-unsound, left-as-was}
 use Rattle.watermark.proofs.add_reader.Goals as goal
 
-pub put-requires : goal.put-requires
-put-requires c =
-    let way : AddWay (room_in c.args.times.now c.args.counts.now) c.args.time (rows_in c.args.used c.args.times.now c.args.counts.now) c.plan_add-plan.result (try_add_row (room_in c.args.times.now c.args.counts.now) (rows_in c.args.used c.args.times.now c.args.counts.now) c.args.time) = add-of (room_in c.args.times.now c.args.counts.now) c.args.time c.args.used (λ i. row (get_or c.args.times.now i 0) (get_or c.args.counts.now i 0)) c.scan-s.result c.scan-s.ensures
-    c.plan_add-plan.result (c.plan_add-plan.ensures ∙ ap (adding_of c.scan-s.result c.args.used) c.lesser-room.ensures) in
-    let w = add-within (way) in (w.0, omega (arith, w.1))
+pub returns-in_err-scan : goal.returns-in_err-scan
+returns-in_err-scan c =
+    let p = err_from_is_err_and c.from_residual.result c.from_residual.ensures.1 in
+    rw (p.1, p.2) (left-as-was c.args.times.now c.args.counts.now refl (add-stops-unsound (room_in c.args.times.now c.args.counts.now) c.args.time c.args.used (λ i. row (get_or c.args.times.now i 0) (get_or c.args.counts.now i 0)) _ c.in_err-scan.ensures))
 
-pub put-requires-2 : goal.put-requires-2
-put-requires-2 c =
-    let way : AddWay (room_in c.args.times.now c.args.counts.now) c.args.time (rows_in c.args.used c.args.times.now c.args.counts.now) c.plan_add-plan.result (try_add_row (room_in c.args.times.now c.args.counts.now) (rows_in c.args.used c.args.times.now c.args.counts.now) c.args.time) = add-of (room_in c.args.times.now c.args.counts.now) c.args.time c.args.used (λ i. row (get_or c.args.times.now i 0) (get_or c.args.counts.now i 0)) c.scan-s.result c.scan-s.ensures
-    c.plan_add-plan.result (c.plan_add-plan.ensures ∙ ap (adding_of c.scan-s.result c.args.used) c.lesser-room.ensures) in
-    let w = add-within (way) in (w.0, omega (arith, w.1))
+pub plan_add-requires : goal.plan_add-requires
+plan_add-requires c =
+    counted-below (room_in c.args.times.now c.args.counts.now) c.args.time c.args.used (λ i. row (get_or c.args.times.now i 0) (get_or c.args.counts.now i 0)) c.in_ok-scan.field-0 c.in_ok-scan.ensures c.ranges.used.fits
+
+pub returns-in_err-put : goal.returns-in_err-put
+returns-in_err-put c =
+    let way = add-of (room_in c.args.times.now c.args.counts.now) c.args.time c.args.used (λ i. row (get_or c.args.times.now i 0) (get_or c.args.counts.now i 0)) c.in_ok-scan.field-0 c.in_ok-scan.ensures _ (c.in_err-put.ensures ∙ ap (adding_of c.in_ok-scan.field-0 c.args.used) c.min-room.ensures) in
+    let p = err_from_is_err_and c.from_residual-in_err-put.result c.from_residual-in_err-put.ensures.1 in
+    rw (p.1, p.2) (left-as-was c.args.times.now c.args.counts.now refl (add-stops way))
+
+pub write-requires-clause-from : goal.write-requires-clause-from
+write-requires-clause-from c =
+    let way = add-of (room_in c.args.times.now c.args.counts.now) c.args.time c.args.used (λ i. row (get_or c.args.times.now i 0) (get_or c.args.counts.now i 0)) c.in_ok-scan.field-0 c.in_ok-scan.ensures _ (c.in_ok-put.ensures ∙ ap (adding_of c.in_ok-scan.field-0 c.args.used) c.min-room.ensures) in
+    (add-within way).0
+
+pub write-requires-clause-to : goal.write-requires-clause-to
+write-requires-clause-to c =
+    let way = add-of (room_in c.args.times.now c.args.counts.now) c.args.time c.args.used (λ i. row (get_or c.args.times.now i 0) (get_or c.args.counts.now i 0)) c.in_ok-scan.field-0 c.in_ok-scan.ensures _ (c.in_ok-put.ensures ∙ ap (adding_of c.in_ok-scan.field-0 c.args.used) c.min-room.ensures) in
+    omega (arith, (add-within way).1)
+
+pub write-requires-2-clause-from : goal.write-requires-2-clause-from
+write-requires-2-clause-from c =
+    let way = add-of (room_in c.args.times.now c.args.counts.now) c.args.time c.args.used (λ i. row (get_or c.args.times.now i 0) (get_or c.args.counts.now i 0)) c.in_ok-scan.field-0 c.in_ok-scan.ensures _ (c.in_ok-put.ensures ∙ ap (adding_of c.in_ok-scan.field-0 c.args.used) c.min-room.ensures) in
+    (add-within way).0
+
+pub write-requires-2-clause-to : goal.write-requires-2-clause-to
+write-requires-2-clause-to c =
+    let way = add-of (room_in c.args.times.now c.args.counts.now) c.args.time c.args.used (λ i. row (get_or c.args.times.now i 0) (get_or c.args.counts.now i 0)) c.in_ok-scan.field-0 c.in_ok-scan.ensures _ (c.in_ok-put.ensures ∙ ap (adding_of c.in_ok-scan.field-0 c.args.used) c.min-room.ensures) in
+    omega (arith, (add-within way).1)
 
 pub returns : goal.returns
 returns c =
-    let way : AddWay (room_in c.args.times.now c.args.counts.now) c.args.time (rows_in c.args.used c.args.times.now c.args.counts.now) c.plan_add-plan.result (try_add_row (room_in c.args.times.now c.args.counts.now) (rows_in c.args.used c.args.times.now c.args.counts.now) c.args.time) = add-of (room_in c.args.times.now c.args.counts.now) c.args.time c.args.used (λ i. row (get_or c.args.times.now i 0) (get_or c.args.counts.now i 0)) c.scan-s.result c.scan-s.ensures
-    c.plan_add-plan.result (c.plan_add-plan.ensures ∙ ap (adding_of c.scan-s.result c.args.used) c.lesser-room.ensures) in
-    let w = way in
+    let way = add-of (room_in c.args.times.now c.args.counts.now) c.args.time c.args.used (λ i. row (get_or c.args.times.now i 0) (get_or c.args.counts.now i 0)) c.in_ok-scan.field-0 c.in_ok-scan.ensures _ (c.in_ok-put.ensures ∙ ap (adding_of c.in_ok-scan.field-0 c.args.used) c.min-room.ensures) in
     record {
-      reply = add-says w;
-      times = c.put.ensures ∙ add-writes (λ r. r.time) c.args.times.now w (times-in c.args.used c.args.times.now c.args.counts.now);
-      counts = c.put-2.ensures ∙ add-writes (λ r. r.count) c.args.counts.now w (counts-in c.args.used c.args.times.now c.args.counts.now);
+      reply = ap go c.max.ensures ∙ add-said (room_in c.args.times.now c.args.counts.now) c.args.time c.args.used (λ i. row (get_or c.args.times.now i 0) (get_or c.args.counts.now i 0)) c.in_ok-scan.field-0 c.in_ok-scan.ensures way;
+      times = c.write.ensures ∙ add-writes (λ r. r.time) c.args.times.now way (times-in c.args.used c.args.times.now c.args.counts.now);
+      counts = c.write-2.ensures ∙ add-writes (λ r. r.count) c.args.counts.now way (counts-in c.args.used c.args.times.now c.args.counts.now);
     }

@@ -1,57 +1,106 @@
--- `watermark::remove_reader` meets its contract: what was decided is what the paper's call does, and each slice is written by it.
-use Rattle.watermark.proofs.Answers.{remove-of, upto-used}
-use Rattle.watermark.proofs.Fronts.{times-in, counts-in}
-use Rattle.watermark.proofs.Plans.{RemoveWay, remove-says, remove-within, remove-writes}
-use Rattle.watermark.specs.Pass.{moved_down}
-use Rattle.watermark.specs.Table.{rows_in, room_in}
-use Rattle.paper.specs.Calls.{try_remove_row}
+-- The pass, what was decided, and what was written.
+use Rattle.std.proofs.Common.{get_or, refl, ◌∙◌, arith}
+use Rattle.std.proofs.lemmas.Result.{err_from_is_err_and}
 use Rattle.paper.specs.Readers.{row}
-use lib.ListN.{get_or}
-use mathlib.Core.List.{List}
-use mathlib.Core.Path.{◌∙◌, ap}
-use Prim.Native.Nat.{ℕ}
-use native.Mathlib.Omega.{arith}
+use Rattle.watermark.specs.Table.{room_in}
+use Rattle.watermark.specs.declared.pass.Removing.{Removing}
+use Rattle.watermark.proofs.Plans.{remove-stops, fewer-within, fewer-writes}
+use Rattle.watermark.proofs.Fronts.{times-in, counts-in}
+use Rattle.watermark.proofs.Answers.{remove-of, remove-as, within, counted-below, remove-stops-unsound, fewer-said, gone-said, gone-inside, gone-written, left-as-was}
 use Rattle.watermark.proofs.remove_reader.Goals as goal
 
-pub plan_remove-plan-requires : goal.plan_remove-plan-requires
-plan_remove-plan-requires c =
-    upto-used (room_in c.args.times.now c.args.counts.now) c.args.time c.args.used (λ i. row (get_or c.args.times.now i 0) (get_or c.args.counts.now i 0)) c.scan-s.result c.scan-s.ensures
+pub returns-in_err-scan : goal.returns-in_err-scan
+returns-in_err-scan c =
+    let p = err_from_is_err_and c.from_residual.result c.from_residual.ensures.1 in
+    rw (p.1, p.2) (left-as-was c.args.times.now c.args.counts.now refl (remove-stops-unsound (room_in c.args.times.now c.args.counts.now) c.args.time c.args.used (λ i. row (get_or c.args.times.now i 0) (get_or c.args.counts.now i 0)) _ c.in_err-scan.ensures))
 
-pub put-requires : goal.put-requires
-put-requires c =
-    let way : RemoveWay (room_in c.args.times.now c.args.counts.now) c.args.time (rows_in c.args.used c.args.times.now c.args.counts.now) c.plan_remove-plan.result (try_remove_row (room_in c.args.times.now c.args.counts.now) (rows_in c.args.used c.args.times.now c.args.counts.now) c.args.time) = remove-of (room_in c.args.times.now c.args.counts.now) c.args.time c.args.used (λ i. row (get_or c.args.times.now i 0) (get_or c.args.counts.now i 0)) c.scan-s.result c.scan-s.ensures
-    c.plan_remove-plan.result c.plan_remove-plan.ensures in
-    let w = remove-within (way) in (w.put-from, omega (arith, w.put-to))
+pub plan_remove-requires : goal.plan_remove-requires
+plan_remove-requires c =
+    counted-below (room_in c.args.times.now c.args.counts.now) c.args.time c.args.used (λ i. row (get_or c.args.times.now i 0) (get_or c.args.counts.now i 0)) c.in_ok-scan.field-0 c.in_ok-scan.ensures c.ranges.used.fits
 
-pub put-requires-2 : goal.put-requires-2
-put-requires-2 c =
-    let way : RemoveWay (room_in c.args.times.now c.args.counts.now) c.args.time (rows_in c.args.used c.args.times.now c.args.counts.now) c.plan_remove-plan.result (try_remove_row (room_in c.args.times.now c.args.counts.now) (rows_in c.args.used c.args.times.now c.args.counts.now) c.args.time) = remove-of (room_in c.args.times.now c.args.counts.now) c.args.time c.args.used (λ i. row (get_or c.args.times.now i 0) (get_or c.args.counts.now i 0)) c.scan-s.result c.scan-s.ensures
-    c.plan_remove-plan.result c.plan_remove-plan.ensures in
-    let w = remove-within (way) in (w.put-from, omega (arith, w.put-to))
+pub returns-in_err-put : goal.returns-in_err-put
+returns-in_err-put c =
+    let way = remove-of (room_in c.args.times.now c.args.counts.now) c.args.time c.args.used (λ i. row (get_or c.args.times.now i 0) (get_or c.args.counts.now i 0)) c.in_ok-scan.field-0 c.in_ok-scan.ensures _ c.in_err-put.ensures in
+    let p = err_from_is_err_and c.from_residual-in_err-put.result c.from_residual-in_err-put.ensures.1 in
+    rw (p.1, p.2) (left-as-was c.args.times.now c.args.counts.now refl (remove-stops way))
 
-pub cut-requires : goal.cut-requires
-cut-requires c =
-    let way : RemoveWay (room_in c.args.times.now c.args.counts.now) c.args.time (rows_in c.args.used c.args.times.now c.args.counts.now) c.plan_remove-plan.result (try_remove_row (room_in c.args.times.now c.args.counts.now) (rows_in c.args.used c.args.times.now c.args.counts.now) c.args.time) = remove-of (room_in c.args.times.now c.args.counts.now) c.args.time c.args.used (λ i. row (get_or c.args.times.now i 0) (get_or c.args.counts.now i 0)) c.scan-s.result c.scan-s.ensures
-    c.plan_remove-plan.result c.plan_remove-plan.ensures in
-    let w = remove-within (way) in (w.cut-from, w.cut-next, omega (arith, w.cut-to, c.put.auto.slice))
+pub write-requires-clause-from : goal.write-requires-clause-from
+write-requires-clause-from c =
+    let way = remove-as (room_in c.args.times.now c.args.counts.now) c.args.time c.args.used (λ i. row (get_or c.args.times.now i 0) (get_or c.args.counts.now i 0)) c.in_ok-scan.field-0 c.in_ok-scan.ensures (Removing.Fewer c.in-Fewer.put) c.in-Fewer.is c.in_ok-put.ensures in
+    (fewer-within way).0
 
-pub cut-requires-2 : goal.cut-requires-2
-cut-requires-2 c =
-    let way : RemoveWay (room_in c.args.times.now c.args.counts.now) c.args.time (rows_in c.args.used c.args.times.now c.args.counts.now) c.plan_remove-plan.result (try_remove_row (room_in c.args.times.now c.args.counts.now) (rows_in c.args.used c.args.times.now c.args.counts.now) c.args.time) = remove-of (room_in c.args.times.now c.args.counts.now) c.args.time c.args.used (λ i. row (get_or c.args.times.now i 0) (get_or c.args.counts.now i 0)) c.scan-s.result c.scan-s.ensures
-    c.plan_remove-plan.result c.plan_remove-plan.ensures in
-    let w = remove-within (way) in (w.cut-from, w.cut-next, omega (arith, w.cut-to, c.put-2.auto.slice))
+pub write-requires-clause-to : goal.write-requires-clause-to
+write-requires-clause-to c =
+    let way = remove-as (room_in c.args.times.now c.args.counts.now) c.args.time c.args.used (λ i. row (get_or c.args.times.now i 0) (get_or c.args.counts.now i 0)) c.in_ok-scan.field-0 c.in_ok-scan.ensures (Removing.Fewer c.in-Fewer.put) c.in-Fewer.is c.in_ok-put.ensures in
+    omega (arith, (fewer-within way).1)
 
-pub returns : goal.returns
-returns c =
-    let way : RemoveWay (room_in c.args.times.now c.args.counts.now) c.args.time (rows_in c.args.used c.args.times.now c.args.counts.now) c.plan_remove-plan.result (try_remove_row (room_in c.args.times.now c.args.counts.now) (rows_in c.args.used c.args.times.now c.args.counts.now) c.args.time) = remove-of (room_in c.args.times.now c.args.counts.now) c.args.time c.args.used (λ i. row (get_or c.args.times.now i 0) (get_or c.args.counts.now i 0)) c.scan-s.result c.scan-s.ensures
-    c.plan_remove-plan.result c.plan_remove-plan.ensures in
-    let w = way in
+pub write-requires-in-Fewer-clause-from : goal.write-requires-in-Fewer-clause-from
+write-requires-in-Fewer-clause-from c =
+    let way = remove-as (room_in c.args.times.now c.args.counts.now) c.args.time c.args.used (λ i. row (get_or c.args.times.now i 0) (get_or c.args.counts.now i 0)) c.in_ok-scan.field-0 c.in_ok-scan.ensures (Removing.Fewer c.in-Fewer.put) c.in-Fewer.is c.in_ok-put.ensures in
+    (fewer-within way).0
+
+pub write-requires-in-Fewer-clause-to : goal.write-requires-in-Fewer-clause-to
+write-requires-in-Fewer-clause-to c =
+    let way = remove-as (room_in c.args.times.now c.args.counts.now) c.args.time c.args.used (λ i. row (get_or c.args.times.now i 0) (get_or c.args.counts.now i 0)) c.in_ok-scan.field-0 c.in_ok-scan.ensures (Removing.Fewer c.in-Fewer.put) c.in-Fewer.is c.in_ok-put.ensures in
+    omega (arith, (fewer-within way).1)
+
+pub overflow_add-at : goal.overflow_add-at
+overflow_add-at c =
+    let way = remove-as (room_in c.args.times.now c.args.counts.now) c.args.time c.args.used (λ i. row (get_or c.args.times.now i 0) (get_or c.args.counts.now i 0)) c.in_ok-scan.field-0 c.in_ok-scan.ensures (Removing.Gone c.in-Gone.at) c.in-Gone.is c.in_ok-put.ensures in
+    omega (arith, gone-inside (room_in c.args.times.now c.args.counts.now) c.args.time c.args.used (λ i. row (get_or c.args.times.now i 0) (get_or c.args.counts.now i 0)) c.in_ok-scan.field-0 c.in_ok-scan.ensures way)
+
+pub copy_within-requires-clause-start_le_end : goal.copy_within-requires-clause-start_le_end
+copy_within-requires-clause-start_le_end c =
+    let way = remove-as (room_in c.args.times.now c.args.counts.now) c.args.time c.args.used (λ i. row (get_or c.args.times.now i 0) (get_or c.args.counts.now i 0)) c.in_ok-scan.field-0 c.in_ok-scan.ensures (Removing.Gone c.in-Gone.at) c.in-Gone.is c.in_ok-put.ensures in
+    omega (arith, gone-inside (room_in c.args.times.now c.args.counts.now) c.args.time c.args.used (λ i. row (get_or c.args.times.now i 0) (get_or c.args.counts.now i 0)) c.in_ok-scan.field-0 c.in_ok-scan.ensures way)
+
+pub copy_within-requires-clause-in_bounds : goal.copy_within-requires-clause-in_bounds
+copy_within-requires-clause-in_bounds c =
+    omega (arith, within (room_in c.args.times.now c.args.counts.now) c.args.time c.args.used (λ i. row (get_or c.args.times.now i 0) (get_or c.args.counts.now i 0)) c.in_ok-scan.field-0 c.in_ok-scan.ensures)
+
+pub copy_within-requires-clause-dest_in_bounds : goal.copy_within-requires-clause-dest_in_bounds
+copy_within-requires-clause-dest_in_bounds c =
+    let way = remove-as (room_in c.args.times.now c.args.counts.now) c.args.time c.args.used (λ i. row (get_or c.args.times.now i 0) (get_or c.args.counts.now i 0)) c.in_ok-scan.field-0 c.in_ok-scan.ensures (Removing.Gone c.in-Gone.at) c.in-Gone.is c.in_ok-put.ensures in
+    omega (arith, gone-inside (room_in c.args.times.now c.args.counts.now) c.args.time c.args.used (λ i. row (get_or c.args.times.now i 0) (get_or c.args.counts.now i 0)) c.in_ok-scan.field-0 c.in_ok-scan.ensures way, within (room_in c.args.times.now c.args.counts.now) c.args.time c.args.used (λ i. row (get_or c.args.times.now i 0) (get_or c.args.counts.now i 0)) c.in_ok-scan.field-0 c.in_ok-scan.ensures)
+
+pub overflow_add-at-in-Gone : goal.overflow_add-at-in-Gone
+overflow_add-at-in-Gone c =
+    let way = remove-as (room_in c.args.times.now c.args.counts.now) c.args.time c.args.used (λ i. row (get_or c.args.times.now i 0) (get_or c.args.counts.now i 0)) c.in_ok-scan.field-0 c.in_ok-scan.ensures (Removing.Gone c.in-Gone.at) c.in-Gone.is c.in_ok-put.ensures in
+    omega (arith, gone-inside (room_in c.args.times.now c.args.counts.now) c.args.time c.args.used (λ i. row (get_or c.args.times.now i 0) (get_or c.args.counts.now i 0)) c.in_ok-scan.field-0 c.in_ok-scan.ensures way)
+
+pub copy_within-requires-in-Gone-clause-start_le_end : goal.copy_within-requires-in-Gone-clause-start_le_end
+copy_within-requires-in-Gone-clause-start_le_end c =
+    let way = remove-as (room_in c.args.times.now c.args.counts.now) c.args.time c.args.used (λ i. row (get_or c.args.times.now i 0) (get_or c.args.counts.now i 0)) c.in_ok-scan.field-0 c.in_ok-scan.ensures (Removing.Gone c.in-Gone.at) c.in-Gone.is c.in_ok-put.ensures in
+    omega (arith, gone-inside (room_in c.args.times.now c.args.counts.now) c.args.time c.args.used (λ i. row (get_or c.args.times.now i 0) (get_or c.args.counts.now i 0)) c.in_ok-scan.field-0 c.in_ok-scan.ensures way)
+
+pub copy_within-requires-in-Gone-clause-in_bounds : goal.copy_within-requires-in-Gone-clause-in_bounds
+copy_within-requires-in-Gone-clause-in_bounds c =
+    omega (arith, within (room_in c.args.times.now c.args.counts.now) c.args.time c.args.used (λ i. row (get_or c.args.times.now i 0) (get_or c.args.counts.now i 0)) c.in_ok-scan.field-0 c.in_ok-scan.ensures)
+
+pub copy_within-requires-in-Gone-clause-dest_in_bounds : goal.copy_within-requires-in-Gone-clause-dest_in_bounds
+copy_within-requires-in-Gone-clause-dest_in_bounds c =
+    let way = remove-as (room_in c.args.times.now c.args.counts.now) c.args.time c.args.used (λ i. row (get_or c.args.times.now i 0) (get_or c.args.counts.now i 0)) c.in_ok-scan.field-0 c.in_ok-scan.ensures (Removing.Gone c.in-Gone.at) c.in-Gone.is c.in_ok-put.ensures in
+    omega (arith, gone-inside (room_in c.args.times.now c.args.counts.now) c.args.time c.args.used (λ i. row (get_or c.args.times.now i 0) (get_or c.args.counts.now i 0)) c.in_ok-scan.field-0 c.in_ok-scan.ensures way, within (room_in c.args.times.now c.args.counts.now) c.args.time c.args.used (λ i. row (get_or c.args.times.now i 0) (get_or c.args.counts.now i 0)) c.in_ok-scan.field-0 c.in_ok-scan.ensures)
+
+pub overflow_sub-result : goal.overflow_sub-result
+overflow_sub-result c =
+    let way = remove-as (room_in c.args.times.now c.args.counts.now) c.args.time c.args.used (λ i. row (get_or c.args.times.now i 0) (get_or c.args.counts.now i 0)) c.in_ok-scan.field-0 c.in_ok-scan.ensures (Removing.Gone c.in-Gone.at) c.in-Gone.is c.in_ok-put.ensures in
+    omega (arith, gone-inside (room_in c.args.times.now c.args.counts.now) c.args.time c.args.used (λ i. row (get_or c.args.times.now i 0) (get_or c.args.counts.now i 0)) c.in_ok-scan.field-0 c.in_ok-scan.ensures way)
+
+pub returns-in-Fewer : goal.returns-in-Fewer
+returns-in-Fewer c =
+    let way = remove-as (room_in c.args.times.now c.args.counts.now) c.args.time c.args.used (λ i. row (get_or c.args.times.now i 0) (get_or c.args.counts.now i 0)) c.in_ok-scan.field-0 c.in_ok-scan.ensures (Removing.Fewer c.in-Fewer.put) c.in-Fewer.is c.in_ok-put.ensures in
     record {
-      reply = remove-says w;
-      times =
-          c.cut.ensures ∙ ap (λ (z : List ℕ). moved_down z c.plan_remove-plan.result.cut.from c.plan_remove-plan.result.cut.next c.plan_remove-plan.result.cut.to) c.put.ensures
-          ∙ remove-writes (λ r. r.time) c.args.times.now w (times-in c.args.used c.args.times.now c.args.counts.now);
-      counts =
-          c.cut-2.ensures ∙ ap (λ (z : List ℕ). moved_down z c.plan_remove-plan.result.cut.from c.plan_remove-plan.result.cut.next c.plan_remove-plan.result.cut.to) c.put-2.ensures
-          ∙ remove-writes (λ r. r.count) c.args.counts.now w (counts-in c.args.used c.args.times.now c.args.counts.now);
+      reply = fewer-said (room_in c.args.times.now c.args.counts.now) c.args.time c.args.used (λ i. row (get_or c.args.times.now i 0) (get_or c.args.counts.now i 0)) c.in_ok-scan.field-0 c.in_ok-scan.ensures way;
+      times = c.write.ensures ∙ fewer-writes (λ r. r.time) c.args.times.now way (times-in c.args.used c.args.times.now c.args.counts.now);
+      counts = c.write-in-Fewer.ensures ∙ fewer-writes (λ r. r.count) c.args.counts.now way (counts-in c.args.used c.args.times.now c.args.counts.now);
+    }
+
+pub returns-in-Gone : goal.returns-in-Gone
+returns-in-Gone c =
+    let way = remove-as (room_in c.args.times.now c.args.counts.now) c.args.time c.args.used (λ i. row (get_or c.args.times.now i 0) (get_or c.args.counts.now i 0)) c.in_ok-scan.field-0 c.in_ok-scan.ensures (Removing.Gone c.in-Gone.at) c.in-Gone.is c.in_ok-put.ensures in
+    record {
+      reply = gone-said (room_in c.args.times.now c.args.counts.now) c.args.time c.args.used (λ i. row (get_or c.args.times.now i 0) (get_or c.args.counts.now i 0)) c.in_ok-scan.field-0 c.in_ok-scan.ensures way;
+      times = c.copy_within.ensures.after ∙ gone-written (room_in c.args.times.now c.args.counts.now) c.args.time c.args.used (λ i. row (get_or c.args.times.now i 0) (get_or c.args.counts.now i 0)) c.in_ok-scan.field-0 c.in_ok-scan.ensures (λ r. r.time) c.args.times.now way (times-in c.args.used c.args.times.now c.args.counts.now);
+      counts = c.copy_within-in-Gone.ensures.after ∙ gone-written (room_in c.args.times.now c.args.counts.now) c.args.time c.args.used (λ i. row (get_or c.args.times.now i 0) (get_or c.args.counts.now i 0)) c.in_ok-scan.field-0 c.in_ok-scan.ensures (λ r. r.count) c.args.counts.now way (counts-in c.args.used c.args.times.now c.args.counts.now);
     }

@@ -1,26 +1,32 @@
-use Rattle.words.proofs.Handles.{digits_low, digits-high, digits-many, digits-on, digits-end}
-use mathlib.Core.Path.{refl, sym, ◌∙◌}
-use native.Mathlib.Omega.{arith}
+-- A byte at a time: one that is no digit, or a number that is too large, ends it.
+use Rattle.std.proofs.Common.{sym, ◌∙◌, ap, arith}
+use Prim.Native.Nat.{ℕ, ◌+◌}
+use lib.ListN.{drop}
+use Rattle.words.specs.Fields.{digits_from}
+use Rattle.words.proofs.Handles.{digits-stop, digits-on, digits-many, digits-end}
 use Rattle.words.proofs.digits.Goals as goal
 
-pub loop-i-init : goal.loop-i-init
-loop-i-init c = (omega arith, refl)
+pub returns-then-not-is_ascii_digit : goal.returns-then-not-is_ascii_digit
+returns-then-not-is_ascii_digit c =
+    sym (c.loop-b.invariant.sofar ∙ digits-stop c.loop-b.n c.args.s.now c.loop-b.b-index c.loop-b-test.true (sym c.is_ascii_digit.ensures.value ∙ c.if-not-is_ascii_digit.true))
 
-pub returns-then-b-lt48 : goal.returns-then-b-lt48
-returns-then-b-lt48 c =
-    sym (c.loop-i.invariant.1 ∙ digits_low _ _ _ _ c.loop-i-test.true c.byte-b.ensures.0 c.if-b-lt48.true)
+pub returns-in_err-checked_mul : goal.returns-in_err-checked_mul
+returns-in_err-checked_mul c =
+    c.from_residual.ensures
+    ∙ sym (c.loop-b.invariant.sofar ∙ digits-many c.loop-b.n c.args.s.now c.loop-b.b-index c.loop-b-test.true (sym c.is_ascii_digit.ensures.value ∙ c.if-not-is_ascii_digit.false) (omega (arith, c.in_err-checked_mul.ensures)))
 
-pub returns-then-b-gt57 : goal.returns-then-b-gt57
-returns-then-b-gt57 c =
-    sym (c.loop-i.invariant.1 ∙ digits-high _ _ _ _ c.loop-i-test.true c.byte-b.ensures.0 c.if-b-gt57.true)
+pub returns-in_err-n : goal.returns-in_err-n
+returns-in_err-n c =
+    c.from_residual-in_err-n.ensures
+    ∙ sym (c.loop-b.invariant.sofar ∙ digits-many c.loop-b.n c.args.s.now c.loop-b.b-index c.loop-b-test.true (sym c.is_ascii_digit.ensures.value ∙ c.if-not-is_ascii_digit.false) (omega (arith, c.in_err-n.ensures, c.in_ok-checked_mul.ensures)))
 
-pub returns-then-b-n : goal.returns-then-b-n
-returns-then-b-n c =
-    sym (c.loop-i.invariant.1 ∙ digits-many _ _ _ _ c.loop-i-test.true c.byte-b.ensures.0 c.if-b-lt48.false c.if-b-gt57.false c.if-b-n.true)
-
-pub loop-i-preserved : goal.loop-i-preserved
-loop-i-preserved c =
-    (omega arith, c.loop-i.invariant.1 ∙ digits-on _ _ _ _ c.loop-i-test.true c.byte-b.ensures.0 c.if-b-lt48.false c.if-b-gt57.false)
+pub loop-b-preserved : goal.loop-b-preserved
+loop-b-preserved c = record {
+  sofar =
+      c.loop-b.invariant.sofar ∙ digits-on c.loop-b.n c.args.s.now c.loop-b.b-index c.loop-b-test.true (sym c.is_ascii_digit.ensures.value ∙ c.if-not-is_ascii_digit.false)
+      ∙ ap (λ (n : ℕ). digits_from n (drop (c.loop-b.b-index + 1) c.args.s.now)) (omega (arith, c.in_ok-n.ensures, c.in_ok-checked_mul.ensures));
+  fits = omega (arith, c.in_ok-n.ensures);
+}
 
 pub returns : goal.returns
-returns c = sym (c.loop-i.invariant.1 ∙ digits-end _ _ _ c.loop-i.invariant.0 c.loop-i-test.false)
+returns c = sym (c.loop-b.invariant.sofar ∙ digits-end c.loop-b.n c.args.s.now c.loop-b.b-index (omega arith) c.loop-b-test.false)

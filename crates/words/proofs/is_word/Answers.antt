@@ -1,21 +1,16 @@
-use Rattle.words.proofs.Letters.{letters-on, letters-stop, letters-end, word-empty, word-long, word-is}
-use mathlib.Core.Path.{sym, ◌∙◌}
+-- The length first, and then the letters.
+use Rattle.std.proofs.Common.{sym, ◌∙◌, arith, rules, tests}
+use Rattle.std.specs.Char.{is_ascii_alphanumeric}
+use Rattle.std.proofs.lemmas.Iterator.{YieldsList-from_slice}
+use Rattle.std.proofs.lemmas.Iterator.Search.{all_from_yields_List}
+use Rattle.std.proofs.lemmas.Bool.Decides.{nat_tests}
+use Rattle.words.proofs.Letters.{word-empty, word-long, word-is}
 use Rattle.words.proofs.is_word.Goals as goal
 
-pub returns-then-s-eq0 : goal.returns-then-s-eq0
-returns-then-s-eq0 c = word-empty _ c.if-s-eq0.true
+pub returns-then-s-le16 : goal.returns-then-s-le16
+returns-then-s-le16 c =
+    all_from_yields_List is_ascii_alphanumeric _ _ _ c.all.ensures.ran (YieldsList-from_slice c.args.s.now cc) (λ x b q k. search (rules, tests))
+    ∙ sym (word-is c.args.s.now (grind (arith, nat_tests)) (c.if-s-le16.true.1))
 
-pub returns-then-s-gt16 : goal.returns-then-s-gt16
-returns-then-s-gt16 c = word-long _ c.if-s-gt16.true
-
-pub returns-then-not-is_letter_or_digit : goal.returns-then-not-is_letter_or_digit
-returns-then-not-is_letter_or_digit c =
-    sym (letters-stop _ _ c.loop-i-test.true (sym c.is_letter_or_digit.ensures ∙ c.if-not-is_letter_or_digit.true)) ∙ sym c.loop-i.invariant ∙ word-is _ c.if-s-eq0.false c.if-s-gt16.false
-
-pub loop-i-preserved : goal.loop-i-preserved
-loop-i-preserved c =
-    c.loop-i.invariant ∙ letters-on _ _ c.loop-i-test.true (sym c.is_letter_or_digit.ensures ∙ c.if-not-is_letter_or_digit.false)
-
-pub returns : goal.returns
-returns c =
-    sym (letters-end _ _ c.loop-i-test.false) ∙ sym c.loop-i.invariant ∙ word-is _ c.if-s-eq0.false c.if-s-gt16.false
+pub returns-else-s-le16 : goal.returns-else-s-le16
+returns-else-s-le16 c = grind (arith, nat_tests, word-empty, word-long)

@@ -1,46 +1,59 @@
--- The letter, the handle, and then the rest.
-use Rattle.words.proofs.Reading.{no-letter, letter-alone, two-long, letter-first, end-within, handle-of, no-handle}
-use Rattle.words.specs.Fields.{number_of}
+-- The letter, the handle, and then the rest: each field is the next of the line's pieces.
+use Rattle.std.proofs.Common.{List, ◌∷◌, ap, sym, ◌∙◌, arith, rules, tests}
+use Rattle.paper.specs.Keys.{Bytes}
 use Rattle.words.specs.Commands.{call_of}
-use Rattle.paper.specs.Replay.{line_call}
-use native.Mathlib.Omega.{arith}
-use mathlib.Core.Path.{sym, ap, ◌∙◌}
+use Rattle.words.proofs.Pieces.{first-field, took, ended, took-some, ended-none}
+use Rattle.words.proofs.Calls.{no-letter, lone-line, no-handle, handled-line}
 use Rattle.words.proofs.understood.Goals as goal
 
-pub returns-then-piece_end-ne1 : goal.returns-then-piece_end-ne1
-unfolding call_of
-returns-then-piece_end-ne1 c = (sym (no-letter c.args.line.now _ c.piece_end.ensures c.if-piece_end-ne1.true), tt)
+pub returns-then-letter-ne1 : goal.returns-then-letter-ne1
+returns-then-letter-ne1 c =
+    let letter = first-field c.args.line.now c.split-fields.result c.in_ok-letter.letter c.next.new.self c.in_ok-letter.ensures.steps c.split-fields.ensures.rest c.split-fields.ensures.done c.split-fields.ensures.closure (λ y b q k. search (rules, tests)) in
+    sym (no-letter c.args.line.now _ _ letter.1 c.if-letter-ne1.true)
 
-pub alone-requires : goal.alone-requires
-alone-requires c = c.if-line-eq1.true
+pub returns-in_default : goal.returns-in_default
+returns-in_default c =
+    let letter = first-field c.args.line.now c.split-fields.result c.in_ok-letter.letter c.next.new.self c.in_ok-letter.ensures.steps c.split-fields.ensures.rest c.split-fields.ensures.done c.split-fields.ensures.closure (λ y b q k. search (rules, tests)) in
+    c.alone.ensures ∙ sym (lone-line c.args.line.now _ _ letter.1 (omega arith) (ended _ letter.2 c.next-2.new.self c.in_default.ensures.steps))
 
-pub returns-then-line-eq1 : goal.returns-then-line-eq1
-returns-then-line-eq1 c =
-    (c.alone.ensures.0 ∙ sym (ap line_call (letter-alone c.args.line.now _ c.piece_end.ensures c.if-piece_end-ne1.false c.if-line-eq1.true)), c.alone.ensures.1)
+pub returns-in_err-handle : goal.returns-in_err-handle
+returns-in_err-handle c =
+    let letter = first-field c.args.line.now c.split-fields.result c.in_ok-letter.letter c.next.new.self c.in_ok-letter.ensures.steps c.split-fields.ensures.rest c.split-fields.ensures.done c.split-fields.ensures.closure (λ y b q k. search (rules, tests)) in
+    let handle = took _ letter.2 c.in-Some.handle c.next-2.new.self c.in-Some.ensures.steps in
+    ap call_of c.from_residual-in_err-handle.ensures ∙ sym (no-handle c.args.line.now _ _ letter.1 (omega arith) _ _ handle.1 (sym c.in_err-handle.ensures))
 
-pub slice_bounds-handle_in-count : goal.slice_bounds-handle_in-count
-slice_bounds-handle_in-count c = omega (arith, c.piece_end-end.ensures)
+pub returns-in_default-next : goal.returns-in_default-next
+returns-in_default-next c =
+    let letter = first-field c.args.line.now c.split-fields.result c.in_ok-letter.letter c.next.new.self c.in_ok-letter.ensures.steps c.split-fields.ensures.rest c.split-fields.ensures.done c.split-fields.ensures.closure (λ y b q k. search (rules, tests)) in
+    let handle = took _ letter.2 c.in-Some.handle c.next-2.new.self c.in-Some.ensures.steps in
+    c.with_handle.ensures
+    ∙ sym (handled-line c.args.line.now _ _ letter.1 (omega arith) _ _ handle.1 _ (sym c.in_ok-handle.ensures) _ (ended _ handle.2 c.next-3.new.self c.in_default-next.ensures.steps))
 
-pub slice_bounds-handle_in-start : goal.slice_bounds-handle_in-start
-slice_bounds-handle_in-start c = omega (arith, c.piece_end-end.ensures)
+pub returns-in_default-next-2 : goal.returns-in_default-next-2
+returns-in_default-next-2 c =
+    let letter = first-field c.args.line.now c.split-fields.result c.in_ok-letter.letter c.next.new.self c.in_ok-letter.ensures.steps c.split-fields.ensures.rest c.split-fields.ensures.done c.split-fields.ensures.closure (λ y b q k. search (rules, tests)) in
+    let handle = took _ letter.2 c.in-Some.handle c.next-2.new.self c.in-Some.ensures.steps in
+    let key = took _ handle.2 c.in-Some-next.key c.next-3.new.self c.in-Some-next.ensures.steps in
+    c.with_key.ensures
+    ∙ sym (handled-line c.args.line.now _ _ letter.1 (omega arith) _ _ handle.1 _ (sym c.in_ok-handle.ensures) _ (key.1 ∙ ap (λ (ps : List Bytes). c.in-Some-next.key.now ∷ ps) (ended _ key.2 c.next-4.new.self c.in_default-next-2.ensures.steps)))
 
-pub slice_bounds-handle_in-end : goal.slice_bounds-handle_in-end
-slice_bounds-handle_in-end c =
-    end-within c.args.line.now _ c.piece_end.ensures c.if-piece_end-ne1.false c.if-line-eq1.false _ c.piece_end-end.ensures
+pub returns-then-is_some : goal.returns-then-is_some
+returns-then-is_some c =
+    let letter = first-field c.args.line.now c.split-fields.result c.in_ok-letter.letter c.next.new.self c.in_ok-letter.ensures.steps c.split-fields.ensures.rest c.split-fields.ensures.done c.split-fields.ensures.closure (λ y b q k. search (rules, tests)) in
+    let handle = took _ letter.2 c.in-Some.handle c.next-2.new.self c.in-Some.ensures.steps in
+    let key = took _ handle.2 c.in-Some-next.key c.next-3.new.self c.in-Some-next.ensures.steps in
+    let value = took _ key.2 c.in-Some-next-2.value c.next-4.new.self c.in-Some-next-2.ensures.steps in
+    let more = took-some _ value.2 c.next-5.result c.next-5.new.self c.next-5.ensures.steps (sym c.if-is_some.ensures) in
+    sym (handled-line c.args.line.now _ _ letter.1 (omega arith) _ _ handle.1 _ (sym c.in_ok-handle.ensures) _
+    (key.1 ∙ ap (λ (ps : List Bytes). c.in-Some-next.key.now ∷ ps) (value.1 ∙ ap (λ (ps : List Bytes). c.in-Some-next-2.value.now ∷ ps) more.2)))
 
-pub bounds-line-0 : goal.bounds-line-0
-bounds-line-0 c =
-    let h = two-long c.args.line.now _ c.piece_end.ensures c.if-piece_end-ne1.false c.if-line-eq1.false in omega arith
-
-pub with_handle-requires : goal.with_handle-requires
-with_handle-requires c =
-    (handle-of c.args.line.now _ c.piece_end.ensures c.if-piece_end-ne1.false c.if-line-eq1.false _ c.piece_end-end.ensures _ c.handle_in.ensures ∙ ap number_of c.in-Number.is, c.piece_end-end.ensures)
-
-pub returns-in-Other : goal.returns-in-Other
-unfolding call_of
-returns-in-Other c =
-    (sym (no-handle c.args.line.now _ c.piece_end.ensures c.if-piece_end-ne1.false c.if-line-eq1.false _ c.piece_end-end.ensures (handle-of c.args.line.now _ c.piece_end.ensures c.if-piece_end-ne1.false c.if-line-eq1.false _ c.piece_end-end.ensures _ c.handle_in.ensures ∙ ap number_of c.in-Other.is)), tt)
-
-pub returns-in-Number : goal.returns-in-Number
-returns-in-Number c =
-    (c.with_handle.ensures.0 ∙ sym (ap line_call (letter-first c.args.line.now _ c.piece_end.ensures c.if-piece_end-ne1.false c.if-line-eq1.false)), c.with_handle.ensures.1)
+pub returns : goal.returns
+returns c =
+    let letter = first-field c.args.line.now c.split-fields.result c.in_ok-letter.letter c.next.new.self c.in_ok-letter.ensures.steps c.split-fields.ensures.rest c.split-fields.ensures.done c.split-fields.ensures.closure (λ y b q k. search (rules, tests)) in
+    let handle = took _ letter.2 c.in-Some.handle c.next-2.new.self c.in-Some.ensures.steps in
+    let key = took _ handle.2 c.in-Some-next.key c.next-3.new.self c.in-Some-next.ensures.steps in
+    let value = took _ key.2 c.in-Some-next-2.value c.next-4.new.self c.in-Some-next-2.ensures.steps in
+    let none = ended-none _ value.2 c.next-5.result c.next-5.new.self c.next-5.ensures.steps (sym c.if-is_some.ensures) in
+    c.with_value.ensures
+    ∙ sym (handled-line c.args.line.now _ _ letter.1 (omega arith) _ _ handle.1 _ (sym c.in_ok-handle.ensures) _
+    (key.1 ∙ ap (λ (ps : List Bytes). c.in-Some-next.key.now ∷ ps) (value.1 ∙ ap (λ (ps : List Bytes). c.in-Some-next-2.value.now ∷ ps) none)))

@@ -1,27 +1,25 @@
-use Rattle.area.proofs.ActiveLaws.{Says, says_at, active-cut, active-broken, active-late, active-good}
-use Rattle.run.specs.declared.image.Checked.TheVariants.{Run}
-use Rattle.run.specs.declared.image.Checked.{Checked}
-use Rattle.raw.proofs.Octets.{octets-of}
-use Rattle.raw.specs.Bytes.{part}
-use Prim.Native.Nat.{◌+◌}
 use native.Mathlib.Omega.{arith}
-use mathlib.Core.Path.{subst}
+use mathlib.Core.Path.{◌∙◌}
+use Rattle.raw.proofs.Octets.{octets-of}
+use Rattle.area.proofs.ActiveLaws.{active-cut, active-broken, active-late, active-good}
 use Rattle.area.proofs.check.active_check.Goals as goal
 
-pub returns-then-width-n : goal.returns-then-width-n
-returns-then-width-n c =
-    λ st w. active-cut c.args.state.now c.args.at c.args.width c.args.clock (octets-of c.args.state.now (λ i. omega (arith, c.type_inv.state i))) c.requires.0 c.requires.1 c.be64-n.result c.be64-n.ensures st w c.if-width-n.true
+pub returns-in_err-records : goal.returns-in_err-records
+returns-in_err-records c =
+    λ st w. c.from_residual.ensures ∙ active-cut c.args.part.now c.args.clock (octets-of c.args.part.now (λ i. omega (arith, c.type_inv.part i))) c.requires st w c.in_err-records.ensures
+
+pub returns-in_err-tally : goal.returns-in_err-tally
+returns-in_err-tally c =
+    λ st w.
+    c.from_residual-in_err-tally.ensures
+    ∙ active-broken c.args.part.now c.args.clock (octets-of c.args.part.now (λ i. omega (arith, c.type_inv.part i))) c.requires st w c.in_ok-records.records.now c.in_ok-records.field-0-1.now c.in_ok-records.ensures c.in_err-tally.ensures
 
 pub returns-then-clock-tally : goal.returns-then-clock-tally
 returns-then-clock-tally c =
-    let checks : Says (part c.args.state.now (c.args.at + 8) c.be64-n.result) (Run c.in-Run.tally) = subst (λ (r : Checked). Says (part c.args.state.now (c.args.at + 8) c.be64-n.result) r) c.in-Run.is (says_at c.args.state.now (c.args.at + 8) c.be64-n.result c.records_check.result c.records_check.ensures) in
-    λ st w. let k = checks in active-late c.args.state.now c.args.at c.args.width c.args.clock (octets-of c.args.state.now (λ i. omega (arith, c.type_inv.state i))) c.requires.0 c.requires.1 c.be64-n.result c.be64-n.ensures st w c.if-width-n.false k.0 c.in-Run.tally k.1 c.if-clock-tally.true
+    λ st w.
+    active-late c.args.part.now c.args.clock (octets-of c.args.part.now (λ i. omega (arith, c.type_inv.part i))) c.requires st w c.in_ok-records.records.now c.in_ok-records.field-0-1.now c.in_ok-records.ensures c.in_ok-tally.tally c.in_ok-tally.ensures c.if-clock-tally.true
 
-pub returns-in-Wrong : goal.returns-in-Wrong
-returns-in-Wrong c =
-    λ st w. active-broken c.args.state.now c.args.at c.args.width c.args.clock (octets-of c.args.state.now (λ i. omega (arith, c.type_inv.state i))) c.requires.0 c.requires.1 c.be64-n.result c.be64-n.ensures st w c.if-width-n.false (subst (λ (r : Checked). Says (part c.args.state.now (c.args.at + 8) c.be64-n.result) r) c.in-Wrong.is (says_at c.args.state.now (c.args.at + 8) c.be64-n.result c.records_check.result c.records_check.ensures))
-
-pub returns-else-clock-tally : goal.returns-else-clock-tally
-returns-else-clock-tally c =
-    let checks : Says (part c.args.state.now (c.args.at + 8) c.be64-n.result) (Run c.in-Run.tally) = subst (λ (r : Checked). Says (part c.args.state.now (c.args.at + 8) c.be64-n.result) r) c.in-Run.is (says_at c.args.state.now (c.args.at + 8) c.be64-n.result c.records_check.result c.records_check.ensures) in
-    λ st w. let k = checks in active-good c.args.state.now c.args.at c.args.width c.args.clock (octets-of c.args.state.now (λ i. omega (arith, c.type_inv.state i))) c.requires.0 c.requires.1 c.be64-n.result c.be64-n.ensures st w c.if-width-n.false k.0 c.in-Run.tally k.1 c.if-clock-tally.false
+pub returns : goal.returns
+returns c =
+    λ st w.
+    active-good c.args.part.now c.args.clock (octets-of c.args.part.now (λ i. omega (arith, c.type_inv.part i))) c.requires st w c.in_ok-records.records.now c.in_ok-records.field-0-1.now c.in_ok-records.ensures c.in_ok-tally.tally c.in_ok-tally.ensures c.if-clock-tally.false

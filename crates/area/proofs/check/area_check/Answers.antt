@@ -1,36 +1,35 @@
-use Rattle.area.proofs.AreaLaws.{Says, says_at, area-cut, area-broken, area-late, area-many, area-full, area-good}
-use Rattle.area.specs.declared.check.Area.TheVariants.{Runs}
-use Rattle.raw.proofs.Octets.{octets-of}
-use Rattle.raw.specs.Bytes.{part}
-use Prim.Native.Nat.{◌+◌}
 use native.Mathlib.Omega.{arith}
-use mathlib.Core.Path.{subst}
+use mathlib.Core.Path.{sym, ◌∙◌}
+use mathlib.Core.Bool.{true, false}
+use Rattle.std.specs.Prelude.{Some, None}
+use Rattle.raw.proofs.Octets.{octets-of}
+use Rattle.area.proofs.AreaLaws.{says, late-is, area-cut, area-broken, area-late, area-many, area-full, area-good}
 use Rattle.area.proofs.check.area_check.Goals as goal
 
-pub returns-then-width-n : goal.returns-then-width-n
-returns-then-width-n c =
-    λ st w. area-cut c.args.state.now c.args.at c.args.width c.args.clock (octets-of c.args.state.now (λ i. omega (arith, c.type_inv.state i))) c.requires.0 c.requires.1 c.be64-n.result c.be64-n.ensures st w c.if-width-n.true
+pub returns-in_err-images : goal.returns-in_err-images
+returns-in_err-images c =
+    λ st w. c.from_residual.ensures ∙ area-cut c.args.part.now c.args.clock (octets-of c.args.part.now (λ i. omega (arith, c.type_inv.part i))) c.requires st w c.in_err-images.ensures
 
-pub returns-then-clock-others : goal.returns-then-clock-others
-returns-then-clock-others c =
-    let read : Says (part c.args.state.now (c.args.at + 8) c.be64-n.result) (Runs c.in-Runs.others) = subst (Says (part c.args.state.now (c.args.at + 8) c.be64-n.result)) c.in-Runs.is (says_at c.args.state.now (c.args.at + 8) c.be64-n.result c.images_check.result c.images_check.ensures) in
-    λ st w. area-late c.args.state.now c.args.at c.args.width c.args.clock (octets-of c.args.state.now (λ i. omega (arith, c.type_inv.state i))) c.requires.0 c.requires.1 c.be64-n.result c.be64-n.ensures st w c.if-width-n.false c.in-Runs.others (read) c.if-clock-others.true
+pub returns-in_err-others : goal.returns-in_err-others
+returns-in_err-others c =
+    λ st w.
+    c.from_residual-in_err-others.ensures ∙ area-broken c.args.part.now c.args.clock (octets-of c.args.part.now (λ i. omega (arith, c.type_inv.part i))) c.requires st w c.in_ok-images.images.now c.in_ok-images.field-0-1.now c.in_ok-images.ensures (says c.in_ok-images.images.now None c.in_err-others.ensures)
+
+pub returns-then-lt : goal.returns-then-lt
+returns-then-lt c =
+    λ st w.
+    area-late c.args.part.now c.args.clock (octets-of c.args.part.now (λ i. omega (arith, c.type_inv.part i))) c.requires st w c.in_ok-images.images.now c.in_ok-images.field-0-1.now c.in_ok-images.ensures c.in_ok-others.others (says c.in_ok-images.images.now (Some c.in_ok-others.others) c.in_ok-others.ensures) (late-is c.args.clock c.in_ok-others.others.latest true (sym c.if-lt.true ∙ c.lt.ensures))
 
 pub returns-then-others-gt16 : goal.returns-then-others-gt16
 returns-then-others-gt16 c =
-    let read : Says (part c.args.state.now (c.args.at + 8) c.be64-n.result) (Runs c.in-Runs.others) = subst (Says (part c.args.state.now (c.args.at + 8) c.be64-n.result)) c.in-Runs.is (says_at c.args.state.now (c.args.at + 8) c.be64-n.result c.images_check.result c.images_check.ensures) in
-    λ st w. area-many c.args.state.now c.args.at c.args.width c.args.clock (octets-of c.args.state.now (λ i. omega (arith, c.type_inv.state i))) c.requires.0 c.requires.1 c.be64-n.result c.be64-n.ensures st w c.if-width-n.false c.in-Runs.others (read) c.if-clock-others.false c.if-others-gt16.true
+    λ st w.
+    area-many c.args.part.now c.args.clock (octets-of c.args.part.now (λ i. omega (arith, c.type_inv.part i))) c.requires st w c.in_ok-images.images.now c.in_ok-images.field-0-1.now c.in_ok-images.ensures c.in_ok-others.others (says c.in_ok-images.images.now (Some c.in_ok-others.others) c.in_ok-others.ensures) (late-is c.args.clock c.in_ok-others.others.latest false (sym c.if-lt.false ∙ c.lt.ensures)) c.if-others-gt16.true
 
-pub returns-then-width-others : goal.returns-then-width-others
-returns-then-width-others c =
-    let read : Says (part c.args.state.now (c.args.at + 8) c.be64-n.result) (Runs c.in-Runs.others) = subst (Says (part c.args.state.now (c.args.at + 8) c.be64-n.result)) c.in-Runs.is (says_at c.args.state.now (c.args.at + 8) c.be64-n.result c.images_check.result c.images_check.ensures) in
-    λ st w. area-full c.args.state.now c.args.at c.args.width c.args.clock (octets-of c.args.state.now (λ i. omega (arith, c.type_inv.state i))) c.requires.0 c.requires.1 c.be64-n.result c.be64-n.ensures st w c.if-width-n.false c.in-Runs.others (read) c.if-clock-others.false c.if-others-gt16.false c.if-width-others.true
+pub returns-then-part-others : goal.returns-then-part-others
+returns-then-part-others c =
+    λ st w.
+    area-full c.args.part.now c.args.clock (octets-of c.args.part.now (λ i. omega (arith, c.type_inv.part i))) c.requires st w c.in_ok-images.images.now c.in_ok-images.field-0-1.now c.in_ok-images.ensures c.in_ok-others.others (says c.in_ok-images.images.now (Some c.in_ok-others.others) c.in_ok-others.ensures) (late-is c.args.clock c.in_ok-others.others.latest false (sym c.if-lt.false ∙ c.lt.ensures)) c.if-others-gt16.false c.if-part-others.true
 
-pub returns-in-Wrong : goal.returns-in-Wrong
-returns-in-Wrong c =
-    λ st w. area-broken c.args.state.now c.args.at c.args.width c.args.clock (octets-of c.args.state.now (λ i. omega (arith, c.type_inv.state i))) c.requires.0 c.requires.1 c.be64-n.result c.be64-n.ensures st w c.if-width-n.false (subst (Says (part c.args.state.now (c.args.at + 8) c.be64-n.result)) c.in-Wrong.is (says_at c.args.state.now (c.args.at + 8) c.be64-n.result c.images_check.result c.images_check.ensures))
-
-pub returns-else-width-others : goal.returns-else-width-others
-returns-else-width-others c =
-    let read : Says (part c.args.state.now (c.args.at + 8) c.be64-n.result) (Runs c.in-Runs.others) = subst (Says (part c.args.state.now (c.args.at + 8) c.be64-n.result)) c.in-Runs.is (says_at c.args.state.now (c.args.at + 8) c.be64-n.result c.images_check.result c.images_check.ensures) in
-    λ st w. area-good c.args.state.now c.args.at c.args.width c.args.clock (octets-of c.args.state.now (λ i. omega (arith, c.type_inv.state i))) c.requires.0 c.requires.1 c.be64-n.result c.be64-n.ensures st w c.if-width-n.false c.in-Runs.others (read) c.if-clock-others.false c.if-others-gt16.false c.if-width-others.false
+pub returns : goal.returns
+returns c =
+    λ st w. area-good c.args.part.now c.args.clock (octets-of c.args.part.now (λ i. omega (arith, c.type_inv.part i))) c.requires st w c.in_ok-images.images.now c.in_ok-images.field-0-1.now c.in_ok-images.ensures c.in_ok-others.others (says c.in_ok-images.images.now (Some c.in_ok-others.others) c.in_ok-others.ensures) (late-is c.args.clock c.in_ok-others.others.latest false (sym c.if-lt.false ∙ c.lt.ensures)) c.if-others-gt16.false c.if-part-others.false

@@ -1,105 +1,43 @@
-use lib.ListN.{get_or}
-use Rattle.layout.specs.Codec.{sized, plain}
-use Rattle.raw.proofs.Parts.{length_part}
-use Rattle.raw.specs.Bytes.{part, over}
-use Rattle.paper.proofs.ImageLaws.{length-big_endian}
-use Rattle.paper.specs.Image.{big_endian}
-use Rattle.area.proofs.PutLaws.{Next, put-start, put_next, put-done, same-long, plain-long}
-use Rattle.raw.proofs.Octets.{octets-of}
-use Rattle.paper.specs.Keys.{octets}
-use borrow.Author.Rules.{rules}
 use native.Mathlib.Omega.{arith}
-use lib.ListN.{length}
-use mathlib.Core.Bool.{true}
-use mathlib.Core.Path.{◌≡◌, refl, ap, ◌∙◌}
-use Prim.Native.Nat.{ℕ, ◌+◌, ◌*◌, ◌-◌, ◌≤◌}
-use Rattle.paper.specs.Lists.{total}
-use Rattle.paper.specs.Calls.{images_in}
+use mathlib.Core.Path.{◌≡◌, sym, ap, ◌∙◌}
+use lib.Seq.{take-length}
+use Rattle.layout.specs.Codec.{sized, plain}
+use Rattle.raw.proofs.Octets.{octets-of}
+use Rattle.area.proofs.PutLaws.{putting-start, putting-done, putting-turn}
 use Rattle.area.proofs.opening.put_images.Goals as goal
 
-pub loop-i-init : goal.loop-i-init
-loop-i-init c =
-    let bytes : octets c.args.images.now ≡ true = octets-of c.args.images.now (λ i. omega (arith, c.type_inv.images i)) in
-    let long : length c.put_be64.new.s ≡ length c.args.state.now = let n = 8 * length c.args.lengths.now + c.images_total-end.result in same-long c.put_be64.new.s c.args.state.now c.args.at (big_endian 8 n) c.put_be64.ensures (omega (arith, length-big_endian 8 n, c.requires.1)) in
-    let room : c.args.at + 8 + (8 * length c.args.lengths.now + total length (images_in c.args.images.now c.args.lengths.now)) ≤ length c.put_be64.new.s = omega (arith, long, c.requires.1) in
-    put-start c.args.images.now c.args.lengths.now (bytes) c.requires.0 c.put_be64.new.s (c.args.at + 8) (room) c.images_total-end.result c.images_total-end.ensures.sum
-
-pub offset_bounds-lengths-i : goal.offset_bounds-lengths-i
-offset_bounds-lengths-i c = search rules
-
-pub bounds-lengths-i : goal.bounds-lengths-i
-bounds-lengths-i c = omega (arith, c.loop-i.invariant.ahead, c.loop-i-test.true)
+pub loop-n-init : goal.loop-n-init
+loop-n-init c =
+    let e : c.into_iter-n-iterator.result.iter.rest.now ≡ c.args.lengths.now = ap (λ r. r.iter.rest.now) c.into_iter-n-iterator.ensures.into_iter_gives ∙ ap (λ i. i.rest.now) c.rev-n-items.ensures.source ∙ c.iter.ensures.rest in
+    let so = putting-start c.args.images.now c.args.lengths.now (octets-of c.args.images.now (λ i. omega (arith, c.type_inv.images i))) c.requires.0 c.args.state.now c.args.at c.requires.1 c.images_total-end.result c.images_total-end.ensures.sum c.put_number.new.s c.put_number.ensures in
+    record { rest = rw e (sym (take-length c.args.lengths.now)); so = rw e so }
 
 pub overflow_sub-from : goal.overflow_sub-from
 overflow_sub-from c =
-    let bytes : octets c.args.images.now ≡ true = octets-of c.args.images.now (λ i. omega (arith, c.type_inv.images i)) in
-    let long : length c.put_be64.new.s ≡ length c.args.state.now = let n = 8 * length c.args.lengths.now + c.images_total-end.result in same-long c.put_be64.new.s c.args.state.now c.args.at (big_endian 8 n) c.put_be64.ensures (omega (arith, length-big_endian 8 n, c.requires.1)) in
-    let room : c.args.at + 8 + (8 * length c.args.lengths.now + total length (images_in c.args.images.now c.args.lengths.now)) ≤ length c.put_be64.new.s = omega (arith, long, c.requires.1) in
-    let upcoming : Next c.put_be64.new.s (c.args.at + 8) c.args.images.now c.args.lengths.now c.loop-i.state c.loop-i.end c.loop-i.i c.loop-i.to (get_or c.args.lengths.now (c.loop-i.i - 1) 0) = put_next c.args.images.now c.args.lengths.now (bytes) c.requires.0 c.put_be64.new.s (c.args.at + 8) (room) c.loop-i.state c.loop-i.end c.loop-i.i c.loop-i.to c.loop-i.invariant c.loop-i-test.true (get_or c.args.lengths.now (c.loop-i.i - 1) 0) refl in
-    (upcoming).less
-
-pub slice_bounds-put_sized-start : goal.slice_bounds-put_sized-start
-slice_bounds-put_sized-start c =
-    let bytes : octets c.args.images.now ≡ true = octets-of c.args.images.now (λ i. omega (arith, c.type_inv.images i)) in
-    let long : length c.put_be64.new.s ≡ length c.args.state.now = let n = 8 * length c.args.lengths.now + c.images_total-end.result in same-long c.put_be64.new.s c.args.state.now c.args.at (big_endian 8 n) c.put_be64.ensures (omega (arith, length-big_endian 8 n, c.requires.1)) in
-    let room : c.args.at + 8 + (8 * length c.args.lengths.now + total length (images_in c.args.images.now c.args.lengths.now)) ≤ length c.put_be64.new.s = omega (arith, long, c.requires.1) in
-    let upcoming : Next c.put_be64.new.s (c.args.at + 8) c.args.images.now c.args.lengths.now c.loop-i.state c.loop-i.end c.loop-i.i c.loop-i.to (get_or c.args.lengths.now (c.loop-i.i - 1) 0) = put_next c.args.images.now c.args.lengths.now (bytes) c.requires.0 c.put_be64.new.s (c.args.at + 8) (room) c.loop-i.state c.loop-i.end c.loop-i.i c.loop-i.to c.loop-i.invariant c.loop-i-test.true (get_or c.args.lengths.now (c.loop-i.i - 1) 0) refl in
-    omega (arith, (upcoming).inside)
+    let turn = putting-turn c.args.images.now c.args.lengths.now (octets-of c.args.images.now (λ i. omega (arith, c.type_inv.images i))) c.requires.0 c.args.state.now c.args.at c.requires.1 c.images_total-end.result c.images_total-end.ensures.sum c.put_number.new.s c.put_number.ensures c.loop-n.state c.loop-n.end c.loop-n.to c.loop-n.n-iterator.iter.rest.now c.loop-n.invariant.rest c.loop-n.invariant.so c.next.new.self.iter.rest.now c.in-Some.n.now c.in-Some.ensures.steps in
+    turn.less
 
 pub slice_bounds-put_sized-end : goal.slice_bounds-put_sized-end
 slice_bounds-put_sized-end c =
-    let bytes : octets c.args.images.now ≡ true = octets-of c.args.images.now (λ i. omega (arith, c.type_inv.images i)) in
-    let long : length c.put_be64.new.s ≡ length c.args.state.now = let n = 8 * length c.args.lengths.now + c.images_total-end.result in same-long c.put_be64.new.s c.args.state.now c.args.at (big_endian 8 n) c.put_be64.ensures (omega (arith, length-big_endian 8 n, c.requires.1)) in
-    let room : c.args.at + 8 + (8 * length c.args.lengths.now + total length (images_in c.args.images.now c.args.lengths.now)) ≤ length c.put_be64.new.s = omega (arith, long, c.requires.1) in
-    let upcoming : Next c.put_be64.new.s (c.args.at + 8) c.args.images.now c.args.lengths.now c.loop-i.state c.loop-i.end c.loop-i.i c.loop-i.to (get_or c.args.lengths.now (c.loop-i.i - 1) 0) = put_next c.args.images.now c.args.lengths.now (bytes) c.requires.0 c.put_be64.new.s (c.args.at + 8) (room) c.loop-i.state c.loop-i.end c.loop-i.i c.loop-i.to c.loop-i.invariant c.loop-i-test.true (get_or c.args.lengths.now (c.loop-i.i - 1) 0) refl in
-    omega (arith, (upcoming).inside)
+    let turn = putting-turn c.args.images.now c.args.lengths.now (octets-of c.args.images.now (λ i. omega (arith, c.type_inv.images i))) c.requires.0 c.args.state.now c.args.at c.requires.1 c.images_total-end.result c.images_total-end.ensures.sum c.put_number.new.s c.put_number.ensures c.loop-n.state c.loop-n.end c.loop-n.to c.loop-n.n-iterator.iter.rest.now c.loop-n.invariant.rest c.loop-n.invariant.so c.next.new.self.iter.rest.now c.in-Some.n.now c.in-Some.ensures.steps in
+    turn.inside
 
-pub put_sized-requires : goal.put_sized-requires
-put_sized-requires c =
-    let bytes : octets c.args.images.now ≡ true = octets-of c.args.images.now (λ i. omega (arith, c.type_inv.images i)) in
-    let long : length c.put_be64.new.s ≡ length c.args.state.now = let n = 8 * length c.args.lengths.now + c.images_total-end.result in same-long c.put_be64.new.s c.args.state.now c.args.at (big_endian 8 n) c.put_be64.ensures (omega (arith, length-big_endian 8 n, c.requires.1)) in
-    let room : c.args.at + 8 + (8 * length c.args.lengths.now + total length (images_in c.args.images.now c.args.lengths.now)) ≤ length c.put_be64.new.s = omega (arith, long, c.requires.1) in
-    let upcoming : Next c.put_be64.new.s (c.args.at + 8) c.args.images.now c.args.lengths.now c.loop-i.state c.loop-i.end c.loop-i.i c.loop-i.to (get_or c.args.lengths.now (c.loop-i.i - 1) 0) = put_next c.args.images.now c.args.lengths.now (bytes) c.requires.0 c.put_be64.new.s (c.args.at + 8) (room) c.loop-i.state c.loop-i.end c.loop-i.i c.loop-i.to c.loop-i.invariant c.loop-i-test.true (get_or c.args.lengths.now (c.loop-i.i - 1) 0) refl in
-    let part-long : length (part c.args.images.now (c.loop-i.end - get_or c.args.lengths.now (c.loop-i.i - 1) 0) (c.loop-i.end - (c.loop-i.end - get_or c.args.lengths.now (c.loop-i.i - 1) 0))) ≡ c.loop-i.end - (c.loop-i.end - get_or c.args.lengths.now (c.loop-i.i - 1) 0) = let n = get_or c.args.lengths.now (c.loop-i.i - 1) 0 in length_part c.args.images.now (c.loop-i.end - n) (c.loop-i.end - (c.loop-i.end - n)) (omega (arith, (upcoming).inside, (upcoming).less)) in
-    let k = upcoming in let w = part-long in omega (arith, k.room, w, k.less)
+pub put_sized-requires-clause-there : goal.put_sized-requires-clause-there
+put_sized-requires-clause-there c =
+    let turn = putting-turn c.args.images.now c.args.lengths.now (octets-of c.args.images.now (λ i. omega (arith, c.type_inv.images i))) c.requires.0 c.args.state.now c.args.at c.requires.1 c.images_total-end.result c.images_total-end.ensures.sum c.put_number.new.s c.put_number.ensures c.loop-n.state c.loop-n.end c.loop-n.to c.loop-n.n-iterator.iter.rest.now c.loop-n.invariant.rest c.loop-n.invariant.so c.next.new.self.iter.rest.now c.in-Some.n.now c.in-Some.ensures.steps in
+    omega (arith, turn.room, turn.size, turn.less, turn.inside)
 
-pub overflow_add-to-in-loop-i : goal.overflow_add-to-in-loop-i
-overflow_add-to-in-loop-i c =
-    let bytes : octets c.args.images.now ≡ true = octets-of c.args.images.now (λ i. omega (arith, c.type_inv.images i)) in
-    let long : length c.put_be64.new.s ≡ length c.args.state.now = let n = 8 * length c.args.lengths.now + c.images_total-end.result in same-long c.put_be64.new.s c.args.state.now c.args.at (big_endian 8 n) c.put_be64.ensures (omega (arith, length-big_endian 8 n, c.requires.1)) in
-    let room : c.args.at + 8 + (8 * length c.args.lengths.now + total length (images_in c.args.images.now c.args.lengths.now)) ≤ length c.put_be64.new.s = omega (arith, long, c.requires.1) in
-    let upcoming : Next c.put_be64.new.s (c.args.at + 8) c.args.images.now c.args.lengths.now c.loop-i.state c.loop-i.end c.loop-i.i c.loop-i.to (get_or c.args.lengths.now (c.loop-i.i - 1) 0) = put_next c.args.images.now c.args.lengths.now (bytes) c.requires.0 c.put_be64.new.s (c.args.at + 8) (room) c.loop-i.state c.loop-i.end c.loop-i.i c.loop-i.to c.loop-i.invariant c.loop-i-test.true (get_or c.args.lengths.now (c.loop-i.i - 1) 0) refl in
-    omega (arith, (upcoming).inside, (upcoming).less, (upcoming).room)
+pub overflow_add-to-in-loop-n-2 : goal.overflow_add-to-in-loop-n-2
+overflow_add-to-in-loop-n-2 c =
+    let turn = putting-turn c.args.images.now c.args.lengths.now (octets-of c.args.images.now (λ i. omega (arith, c.type_inv.images i))) c.requires.0 c.args.state.now c.args.at c.requires.1 c.images_total-end.result c.images_total-end.ensures.sum c.put_number.new.s c.put_number.ensures c.loop-n.state c.loop-n.end c.loop-n.to c.loop-n.n-iterator.iter.rest.now c.loop-n.invariant.rest c.loop-n.invariant.so c.next.new.self.iter.rest.now c.in-Some.n.now c.in-Some.ensures.steps in
+    omega (arith, turn.room, turn.size)
 
-pub overflow_add-to-in-loop-i-2 : goal.overflow_add-to-in-loop-i-2
-overflow_add-to-in-loop-i-2 c =
-    let bytes : octets c.args.images.now ≡ true = octets-of c.args.images.now (λ i. omega (arith, c.type_inv.images i)) in
-    let long : length c.put_be64.new.s ≡ length c.args.state.now = let n = 8 * length c.args.lengths.now + c.images_total-end.result in same-long c.put_be64.new.s c.args.state.now c.args.at (big_endian 8 n) c.put_be64.ensures (omega (arith, length-big_endian 8 n, c.requires.1)) in
-    let room : c.args.at + 8 + (8 * length c.args.lengths.now + total length (images_in c.args.images.now c.args.lengths.now)) ≤ length c.put_be64.new.s = omega (arith, long, c.requires.1) in
-    let upcoming : Next c.put_be64.new.s (c.args.at + 8) c.args.images.now c.args.lengths.now c.loop-i.state c.loop-i.end c.loop-i.i c.loop-i.to (get_or c.args.lengths.now (c.loop-i.i - 1) 0) = put_next c.args.images.now c.args.lengths.now (bytes) c.requires.0 c.put_be64.new.s (c.args.at + 8) (room) c.loop-i.state c.loop-i.end c.loop-i.i c.loop-i.to c.loop-i.invariant c.loop-i-test.true (get_or c.args.lengths.now (c.loop-i.i - 1) 0) refl in
-    omega (arith, (upcoming).room)
-
-pub loop-i-smaller : goal.loop-i-smaller
-loop-i-smaller c = omega (arith, c.loop-i-test.true)
-
-pub loop-i-preserved : goal.loop-i-preserved
-loop-i-preserved c =
-    let bytes : octets c.args.images.now ≡ true = octets-of c.args.images.now (λ i. omega (arith, c.type_inv.images i)) in
-    let long : length c.put_be64.new.s ≡ length c.args.state.now = let n = 8 * length c.args.lengths.now + c.images_total-end.result in same-long c.put_be64.new.s c.args.state.now c.args.at (big_endian 8 n) c.put_be64.ensures (omega (arith, length-big_endian 8 n, c.requires.1)) in
-    let room : c.args.at + 8 + (8 * length c.args.lengths.now + total length (images_in c.args.images.now c.args.lengths.now)) ≤ length c.put_be64.new.s = omega (arith, long, c.requires.1) in
-    let upcoming : Next c.put_be64.new.s (c.args.at + 8) c.args.images.now c.args.lengths.now c.loop-i.state c.loop-i.end c.loop-i.i c.loop-i.to (get_or c.args.lengths.now (c.loop-i.i - 1) 0) = put_next c.args.images.now c.args.lengths.now (bytes) c.requires.0 c.put_be64.new.s (c.args.at + 8) (room) c.loop-i.state c.loop-i.end c.loop-i.i c.loop-i.to c.loop-i.invariant c.loop-i-test.true (get_or c.args.lengths.now (c.loop-i.i - 1) 0) refl in
-    let part-long : length (part c.args.images.now (c.loop-i.end - get_or c.args.lengths.now (c.loop-i.i - 1) 0) (c.loop-i.end - (c.loop-i.end - get_or c.args.lengths.now (c.loop-i.i - 1) 0))) ≡ c.loop-i.end - (c.loop-i.end - get_or c.args.lengths.now (c.loop-i.i - 1) 0) = let n = get_or c.args.lengths.now (c.loop-i.i - 1) 0 in length_part c.args.images.now (c.loop-i.end - n) (c.loop-i.end - (c.loop-i.end - n)) (omega (arith, (upcoming).inside, (upcoming).less)) in
-    let put-fits : c.loop-i.to + length ((sized 8 plain).put (part c.args.images.now (c.loop-i.end - get_or c.args.lengths.now (c.loop-i.i - 1) 0) (c.loop-i.end - (c.loop-i.end - get_or c.args.lengths.now (c.loop-i.i - 1) 0)))) ≤ length c.loop-i.state = let n = get_or c.args.lengths.now (c.loop-i.i - 1) 0 in omega (arith, (upcoming).room, (upcoming).less, part-long, plain-long (part c.args.images.now (c.loop-i.end - n) (c.loop-i.end - (c.loop-i.end - n)))) in
-    (upcoming).next c.put_sized.new.state (same-long c.put_sized.new.state c.loop-i.state c.loop-i.to _ c.put_sized.ensures (put-fits)) c.put_sized.ensures
-
-pub shape_of-state : goal.shape_of-state
-shape_of-state c =
-    let long : length c.put_be64.new.s ≡ length c.args.state.now = let n = 8 * length c.args.lengths.now + c.images_total-end.result in same-long c.put_be64.new.s c.args.state.now c.args.at (big_endian 8 n) c.put_be64.ensures (omega (arith, length-big_endian 8 n, c.requires.1)) in
-    c.loop-i.invariant.long ∙ long
+pub loop-n-preserved : goal.loop-n-preserved
+unfolding sized plain
+loop-n-preserved c =
+    let turn = putting-turn c.args.images.now c.args.lengths.now (octets-of c.args.images.now (λ i. omega (arith, c.type_inv.images i))) c.requires.0 c.args.state.now c.args.at c.requires.1 c.images_total-end.result c.images_total-end.ensures.sum c.put_number.new.s c.put_number.ensures c.loop-n.state c.loop-n.end c.loop-n.to c.loop-n.n-iterator.iter.rest.now c.loop-n.invariant.rest c.loop-n.invariant.so c.next.new.self.iter.rest.now c.in-Some.n.now c.in-Some.ensures.steps in
+    record { rest = turn.front; so = turn.next c.put_sized.new.s c.put_sized.ensures }
 
 pub returns : goal.returns
 returns c =
-    let bytes : octets c.args.images.now ≡ true = octets-of c.args.images.now (λ i. omega (arith, c.type_inv.images i)) in
-    let long : length c.put_be64.new.s ≡ length c.args.state.now = let n = 8 * length c.args.lengths.now + c.images_total-end.result in same-long c.put_be64.new.s c.args.state.now c.args.at (big_endian 8 n) c.put_be64.ensures (omega (arith, length-big_endian 8 n, c.requires.1)) in
-    let room : c.args.at + 8 + (8 * length c.args.lengths.now + total length (images_in c.args.images.now c.args.lengths.now)) ≤ length c.put_be64.new.s = omega (arith, long, c.requires.1) in
-    put-done c.args.images.now c.args.lengths.now (bytes) c.requires.0 c.put_be64.new.s (c.args.at + 8) (room) c.loop-i.state c.loop-i.end c.loop-i.i c.loop-i.to c.loop-i.invariant c.loop-i-test.false c.args.state.now c.args.at (omega arith) refl (c.put_be64.ensures ∙ ap (λ (n : ℕ). over c.args.state.now c.args.at (big_endian 8 (8 * length c.args.lengths.now + n))) c.images_total-end.ensures.sum)
+    putting-done c.args.images.now c.args.lengths.now (octets-of c.args.images.now (λ i. omega (arith, c.type_inv.images i))) c.requires.0 c.args.state.now c.args.at c.requires.1 c.images_total-end.result c.images_total-end.ensures.sum c.put_number.new.s c.put_number.ensures c.loop-n.state c.loop-n.end c.loop-n.to c.loop-n.n-iterator.iter.rest.now c.loop-n.invariant.rest c.loop-n.invariant.so c.in-None.ensures.steps.0

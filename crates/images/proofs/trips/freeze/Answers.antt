@@ -1,11 +1,12 @@
-use Rattle.std.proofs.Common.{◌-◌, subst, arith}
-use Rattle.raw.specs.Bytes.{part}
-use Rattle.run.specs.declared.image.Checked.{Checked}
-use Rattle.run.proofs.Told.{Says, says_of}
+use Rattle.std.proofs.Common.{sym, ap, ◌∙◌, arith, Some}
+use Rattle.key.specs.Versions.{packed}
+use Rattle.run.proofs.Told.{says_of}
 use Rattle.run.proofs.Judging.{whole_is}
 use Rattle.images.proofs.trips.freeze.Goals as goal
 
 pub freeze_into-requires : goal.freeze_into-requires
 freeze_into-requires c =
-    let b = part c.args.s.now c.args.from (c.args.end - c.args.from) in
-    (c.if-end-from.false, c.if-s-end.false, omega arith, (whole_is b (subst (λ (r : Checked). Says b r) c.in-Run.is (says_of b c.records_check.result c.records_check.ensures)).0).0)
+    let there = c.in_ok-records.ensures.lookup.0 in
+    let records = c.in_ok-records.records.now in
+    let whole = whole_is records (says_of records (Some c.in_ok-records_check.field-0) c.in_ok-records_check.ensures).0 in
+    (there.0, there.1, omega (arith, there.3, c.in_ok-checked_sub.ensures, c.in_ok-checked_sub-2.ensures, c.in_ok-checked_sub-3.ensures), ap packed (sym there.2) ∙ whole.0)

@@ -2,24 +2,11 @@ use Rattle.lsm.proofs.PairLaws.{pair-here, pair-placed}
 use native.Mathlib.Omega.{arith}
 use Rattle.lsm.proofs.overlay.pair_at.Goals as goal
 
-pub overflow_add-ks : goal.overflow_add-ks
-overflow_add-ks c = omega (arith, pair-here c.args.s.now c.args.at c.args.end c.requires.0 c.requires.1)
-
 pub length_at-requires : goal.length_at-requires
 length_at-requires c = omega (arith, pair-here c.args.s.now c.args.at c.args.end c.requires.0 c.requires.1)
 
-pub overflow_add-ke : goal.overflow_add-ke
-overflow_add-ke c = omega (arith, pair-here c.args.s.now c.args.at c.args.end c.requires.0 c.requires.1)
-
-pub overflow_add-vs : goal.overflow_add-vs
-overflow_add-vs c = omega (arith, pair-here c.args.s.now c.args.at c.args.end c.requires.0 c.requires.1)
-
 pub length_at-requires-2 : goal.length_at-requires-2
 length_at-requires-2 c = omega (arith, pair-here c.args.s.now c.args.at c.args.end c.requires.0 c.requires.1)
-
-pub overflow_add-ve : goal.overflow_add-ve
-overflow_add-ve c =
-    let p = (pair-placed c.args.s.now c.args.at c.args.end c.requires.0 c.requires.1 _ _ c.length_at.ensures.0 c.length_at-2.ensures.0).inside in omega arith
 
 pub returns : goal.returns
 returns c =

@@ -1,32 +1,30 @@
-use Rattle.lsm.proofs.SeekLaws.{sought-more}
-use Rattle.merge.proofs.Weights.{all-at}
-use Rattle.lsm.specs.Seeking.{AllSought}
-use Rattle.lsm.specs.Edges.{bound_of}
-use Rattle.merge.specs.Cursors.{nowhere, lawful}
-use Rattle.paper.specs.Lists.{all}
-use lib.ListN.{length, take, length-set}
-use Prim.Native.Nat.{ℕ}
-use mathlib.Core.Path.{◌≡◌, refl, ◌∙◌, subst}
 use native.Mathlib.Omega.{arith}
+use mathlib.Core.Path.{refl, ap, ◌∙◌, subst}
+use lib.ListN.{get_or}
+use lib.Seq.{get_or-set_other}
+use Rattle.paper.specs.Lists.{all}
+use Rattle.merge.specs.Cursors.{nowhere, lawful}
+use Rattle.merge.specs.declared.heap.Cursor.{Cursor}
+use Rattle.merge.proofs.Weights.{all_get_d}
+use Rattle.lsm.specs.Edges.{bound_of}
+use Rattle.lsm.specs.Seeking.{Sought}
+use Rattle.lsm.proofs.SeekLaws.{sought-more}
 use Rattle.lsm.proofs.scan.seek_all.Goals as goal
 
-pub loop-i-init : goal.loop-i-init
+pub loop-c-init : goal.loop-c-init
 unfolding all
-loop-i-init c =
-    let e : length c.args.cursors ≡ 17 = c.well_formed.1.0.1.0.1 in
-    (omega arith, e, record { lawfully = refl; runs = refl; kept = refl })
+loop-c-init c = record { sought = record { lawfully = refl; runs = refl; kept = refl }; others = λ k h. refl }
 
-pub seek_edge-d-requires : goal.seek_edge-d-requires
-seek_edge-d-requires c =
-    let e : length c.args.cursors ≡ 17 = c.well_formed.1.0.1.0.1 in
-    all-at (lawful c.args.s.now) c.args.cursors c.args.n c.loop-i.i nowhere c.loop-i-test.true (omega arith) c.requires.1
+pub seek_low-requires : goal.seek_low-requires
+seek_low-requires c =
+    ap (lawful c.args.s.now) (c.loop-c.invariant.others c.loop-c.c-index (omega arith)) ∙ all_get_d (lawful c.args.s.now) c.args.cursors.now c.loop-c.c-index nowhere (omega arith) c.requires
 
-pub loop-i-preserved : goal.loop-i-preserved
-loop-i-preserved c =
-    let e : length c.args.cursors ≡ 17 = c.well_formed.1.0.1.0.1 in
-    (omega arith, length-set c.loop-i.r c.loop-i.i c.seek_edge-d.result ∙ c.loop-i.invariant.1, sought-more c.args.s.now (bound_of c.args.edge c.args.lo.now) c.args.cursors c.loop-i.r c.loop-i.i c.seek_edge-d.result (omega arith) (omega arith) c.loop-i.invariant.2 c.seek_edge-d.ensures)
-
-pub returns : goal.returns
-returns c =
-    let e : c.loop-i.i ≡ c.args.n = omega arith in
-    subst (λ (k : ℕ). AllSought c.args.s.now (bound_of c.args.edge c.args.lo.now) (take k c.args.cursors) (take k c.loop-i.r)) e c.loop-i.invariant.2
+pub loop-c-preserved : goal.loop-c-preserved
+loop-c-preserved c =
+    let i = c.loop-c.c-index in
+    let w : Sought c.args.s.now (bound_of c.args.low) (get_or c.args.cursors.now i nowhere) c.seek_low.result =
+    subst (λ (x : Cursor). Sought c.args.s.now (bound_of c.args.low) x c.seek_low.result) (c.loop-c.invariant.others i (omega arith)) c.seek_low.ensures in
+    record {
+      sought = sought-more c.args.s.now (bound_of c.args.low) c.args.cursors.now c.loop-c.cursors i c.seek_low.result (omega arith) (omega arith) c.loop-c.invariant.sought w;
+      others = λ k h. get_or-set_other c.loop-c.cursors i k c.seek_low.result nowhere (omega arith) ∙ c.loop-c.invariant.others k (omega arith);
+    }

@@ -1,12 +1,14 @@
-use Rattle.lsm.specs.Seeking.{AllSought}
-use Rattle.lsm.specs.Edges.{bound_of}
-use lib.ListN.{length, take}
-use Prim.Native.Nat.{◌≤◌, ◌-◌}
+-- The cursors passed are sought, and the others stand.
 use mathlib.Core.Path.{◌≡◌}
+use Prim.Native.Nat.{ℕ, ◌≤◌}
+use lib.ListN.{take, get_or}
+use Rattle.merge.specs.Cursors.{nowhere}
+use Rattle.lsm.specs.Edges.{bound_of}
+use Rattle.lsm.specs.Seeking.{AllSought}
 use Rattle.lsm.proofs.scan.seek_all.Given as goal
 
-abbrev pub invariant-loop-i : goal.invariant-loop-i
-invariant-loop-i l = (l.i ≤ l.n) × (length l.r ≡ 17) × AllSought l.s (bound_of l.edge l.lo) (take l.i l.cursors) (take l.i l.r)
-
-abbrev pub decreases-loop-i : goal.decreases-loop-i
-decreases-loop-i l = l.n - l.i
+abbrev pub invariant-loop-c : goal.invariant-loop-c
+invariant-loop-c l = record {
+  sought : AllSought l.s (bound_of l.low) (take l.c-index l.fn.cursors) (take l.c-index l.cursors);
+  others : (k : ℕ) → l.c-index ≤ k → get_or l.cursors k nowhere ≡ get_or l.fn.cursors k nowhere;
+}

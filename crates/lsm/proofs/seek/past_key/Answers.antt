@@ -1,24 +1,11 @@
-use mathlib.Core.Path.{refl, sym, ◌∙◌}
-use Rattle.lsm.specs.Seeking.{run_in, has_key}
-use Rattle.lsm.proofs.SeekLaws.{run-some, run-there, run_step, run-onward, key-past, key-off}
+use mathlib.Core.Path.{◌≡◌}
+use Rattle.std.proofs.Common.{rules}
+use Rattle.std.specs.Option.{option_map_or}
+use Rattle.key.specs.declared.Place.{Place}
+use Rattle.lsm.proofs.SeekLaws.{past_found}
 use Rattle.lsm.proofs.seek.past_key.Goals as goal
-
-pub version_at-p-requires : goal.version_at-p-requires
-version_at-p-requires c =
-    run-there c.args.s.now c.args.at c.args.end c.requires
-    (run-some c.args.s.now c.args.at c.args.end (has_key c.args.key.now) refl (sym c.has_key.ensures ∙ c.if-has_key.true))
-
-pub returns-then-has_key : goal.returns-then-has_key
-returns-then-has_key c =
-    let e = sym c.has_key.ensures ∙ c.if-has_key.true in
-    let l = run-some c.args.s.now c.args.at c.args.end (has_key c.args.key.now) refl e in
-    record {
-      lies = run-onward c.args.s.now c.args.at c.args.end c.requires l c.version_at-p.result c.version_at-p.ensures;
-      past =
-          key-past c.args.key.now _ (run_in c.args.s.now c.version_at-p.result.ve c.args.end) (run_in c.args.s.now c.args.at c.args.end)
-          (run_step c.args.s.now c.args.at c.args.end c.requires l c.version_at-p.result c.version_at-p.ensures) e;
-    }
 
 pub returns : goal.returns
 returns c =
-    record { lies = c.requires; past = key-off c.args.key.now (run_in c.args.s.now c.args.at c.args.end) (sym c.has_key.ensures ∙ c.if-has_key.false) }
+    let e : c.map_or.result ≡ option_map_or (λ (p : Place). p.ve) c.first_of.result c.args.at = search rules in
+    past_found _ _ _ _ _ _ c.requires c.first_of.ensures.is c.first_of.ensures.there e

@@ -5,4 +5,4 @@ use Rattle.run.proofs.tally.count_records.Goals as goal
 
 pub returns : goal.returns
 unfolding tally_of
-returns c = ap (λ (t : Tally). t.count) c.tally_at.ensures
+returns c = ap (λ (t : Tally). t.count) c.of.ensures

@@ -9,6 +9,6 @@ use Rattle.run.proofs.write.put_head.Goals as goal
 
 pub returns : goal.returns
 returns c =
-    c.put_be32.ensures
-    ∙ ap (λ (t : Bytes). over t (c.args.at + 5) (big_endian 4 c.args.count)) (c.put_be16.ensures ∙ ap (λ (t : Bytes). over t (c.args.at + 3) (big_endian 2 format_version)) c.copy_at.ensures)
+    c.put_number-2.ensures
+    ∙ ap (λ (t : Bytes). over t (c.args.at + 5) (big_endian 4 c.args.count)) (c.put_number.ensures ∙ ap (λ (t : Bytes). over t (c.args.at + 3) (big_endian 2 format_version)) c.copy_at.ensures)
     ∙ put-head c.args.s.now c.args.at c.args.count (omega arith)

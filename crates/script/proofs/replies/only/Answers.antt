@@ -4,4 +4,4 @@ use Rattle.script.proofs.Showing.{one_field}
 use Rattle.script.proofs.replies.only.Goals as goal
 
 pub returns : goal.returns
-returns c = one_field c.args.out.now c.args.at (decimal_of c.args.number) c.number-end.ensures c.text.ensures
+returns c = one_field (decimal_of c.args.number) c.number.ensures c.text.ensures

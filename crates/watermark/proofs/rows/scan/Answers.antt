@@ -1,28 +1,44 @@
-use Rattle.std.proofs.Common.{refl, length, leb, subst, ℕ, get_or, arith}
-use Rattle.watermark.specs.Table.{as_row, no_row}
-use Rattle.watermark.proofs.OnePass.{Scanning, scanning-start, scanning-step, scanning-within, scanning-end, within-room}
+-- Row by row, while they are sound.
+use Rattle.std.proofs.Common.{◌≡◌, ℕ, true, ◌+◌, length, get_or, sym, ap, ◌∙◌, Ok, arith}
+use lib.Seq.{length-take-le}
+use Rattle.std.proofs.lemmas.List.{get_or-take}
+use Rattle.std.proofs.lemmas.Result.{err_from_is_err_and}
+use Rattle.watermark.specs.Table.{as_row, no_row, up_to}
+use Rattle.watermark.specs.Pass.{scanned}
+use Rattle.watermark.proofs.OnePass.{start-sound, next-seen, still-unsound, below-within}
+use Rattle.watermark.proofs.Answers.{past-end, within-end}
 use Rattle.watermark.proofs.rows.scan.Goals as goal
 
-pub loop-i-init : goal.loop-i-init
-loop-i-init c = (refl, c.within-end.ensures, scanning-start _ _ _ _ _ c.start-s.ensures)
+pub returns-then-rows-used : goal.returns-then-rows-used
+returns-then-rows-used c = past-end c.args.used _ c.args.time _ c.if-rows-used.true
 
-pub offset_bounds-rows-i : goal.offset_bounds-rows-i
-offset_bounds-rows-i c = omega (arith, (within-room c.args.used (length c.args.rows.now)).0)
+pub loop-row-init : goal.loop-row-init
+unfolding up_to
+loop-row-init c = ap Ok c.start-s.ensures ∙ sym (start-sound c.args.time)
 
-pub bounds-rows-i : goal.bounds-rows-i
-bounds-rows-i c = omega (arith, (within-room c.args.used (length c.args.rows.now)).0)
+pub see-requires : goal.see-requires
+see-requires c =
+    omega (arith, below-within c.args.time (λ i. as_row (get_or c.args.rows.now i no_row)) c.loop-row.row-index c.loop-row.s c.loop-row.invariant, length-take-le c.args.used c.args.rows.now c.if-rows-used.false)
 
-pub see-s-requires : goal.see-s-requires
-see-s-requires c =
-    let w = scanning-within _ _ _ _ _ _ c.loop-i.invariant.2 in
-    let e = (within-room c.args.used (length c.args.rows.now)).0 in
-    (omega arith, omega arith)
+pub returns-in_err-s : goal.returns-in_err-s
+returns-in_err-s c =
+    let at = λ (i : ℕ). as_row (get_or c.args.rows.now i no_row) in
+    let long = length-take-le c.args.used c.args.rows.now c.if-rows-used.false in
+    let here = get_or-take c.args.used c.args.rows.now c.loop-row.row-index no_row (omega (arith, long)) in
+    let p = err_from_is_err_and c.from_residual.result c.from_residual.ensures.1 in
+    rw (p.1, p.2) (
+    within-end c.args.used (length c.args.rows.now) c.args.time _ _ c.if-rows-used.false
+    (still-unsound c.args.time at (c.loop-row.row-index + 1) c.args.used _ (omega (arith, long)) (c.in_err-s.ensures ∙ next-seen c.args.time at c.loop-row.row-index c.loop-row.s _ c.loop-row.invariant (ap as_row here)))
+    )
 
-pub loop-i-preserved : goal.loop-i-preserved
-loop-i-preserved c = (refl, c.loop-i.invariant.1, scanning-step _ _ _ _ _ _ _ _ c.loop-i.invariant.2 c.loop-i-test.true refl c.see-s.ensures)
+pub loop-row-preserved : goal.loop-row-preserved
+loop-row-preserved c =
+    let at = λ (i : ℕ). as_row (get_or c.args.rows.now i no_row) in
+    let here = get_or-take c.args.used c.args.rows.now c.loop-row.row-index no_row (omega (arith, length-take-le c.args.used c.args.rows.now c.if-rows-used.false)) in
+    c.in_ok-s.ensures ∙ next-seen c.args.time at c.loop-row.row-index c.loop-row.s _ c.loop-row.invariant (ap as_row here)
 
 pub returns : goal.returns
 returns c =
-    let n = length c.args.rows.now in
-    let s = subst (λ (k : ℕ). Scanning (leb c.args.used n) c.args.time k (λ i. as_row (get_or c.args.rows.now i no_row)) c.loop-i.s c.loop-i.i) c.within-end.ensures c.loop-i.invariant.2 in
-    scanning-end c.args.time c.args.used n _ c.loop-i.s c.loop-i.i s (omega arith)
+    let at = λ (i : ℕ). as_row (get_or c.args.rows.now i no_row) in
+    let all : c.loop-row.row-index ≡ c.args.used = omega (arith, length-take-le c.args.used c.args.rows.now c.if-rows-used.false) in
+    within-end c.args.used (length c.args.rows.now) c.args.time _ _ c.if-rows-used.false (c.loop-row.invariant ∙ ap (λ (i : ℕ). scanned true c.args.time (up_to i at)) all)

@@ -1,8 +1,0 @@
-use Rattle.raw.proofs.Numbers.{number-parts}
-use native.Mathlib.Omega.{arith}
-use Rattle.raw.proofs.be32.Goals as goal
-
-pub returns : goal.returns
-returns c =
-    let e = number-parts c.args.s.now c.args.at 2 2 (omega arith) in
-    (omega arith, omega arith)

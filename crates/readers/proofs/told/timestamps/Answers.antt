@@ -1,7 +1,0 @@
--- `readers::told::timestamps` meets its contract: each case of the reply.
-use Rattle.paper.specs.Refusals.{refusal_number, room_number}
-use Rattle.readers.proofs.told.timestamps.Goals as goal
-
-pub returns-in-Unsound : goal.returns-in-Unsound
-unfolding refusal_number room_number
-returns-in-Unsound c = simp c.in-Unsound.is

@@ -1,8 +1,0 @@
-use mathlib.Core.Path.{ap}
-use Rattle.run.specs.Tallies.{tally_of}
-use Rattle.run.specs.declared.tally.Tally.{Tally}
-use Rattle.run.proofs.tally.latest_at.Goals as goal
-
-pub returns : goal.returns
-unfolding tally_of
-returns c = ap (λ (t : Tally). t.latest) c.tally_at.ensures

@@ -1,0 +1,16 @@
+use Rattle.std.proofs.Common.{ap, ◌∙◌, arith}
+use Rattle.overlay.specs.Overlay.{pairs_in}
+use Rattle.txn.proofs.Laying.{own-inside, own-whole, own-pairs}
+use Rattle.txn.proofs.own.Goals as goal
+
+pub overflow_add-used_at : goal.overflow_add-used_at
+overflow_add-used_at c = omega (arith, own-inside c.args.place.now c.requires.0 c.requires.1 c.used_at.result c.used_at.ensures)
+
+pub slice_bounds-new-end : goal.slice_bounds-new-end
+slice_bounds-new-end c = omega (arith, own-inside c.args.place.now c.requires.0 c.requires.1 c.used_at.result c.used_at.ensures)
+
+pub new-requires : goal.new-requires
+new-requires c = own-whole c.args.place.now c.requires.0 c.requires.1 c.used_at.result c.used_at.ensures
+
+pub returns : goal.returns
+returns c = ap pairs_in c.new.ensures ∙ own-pairs c.args.place.now c.requires.0 c.requires.1 c.used_at.result c.used_at.ensures
