@@ -5,12 +5,12 @@ ghost use Rattle.layout.specs.Layout.{images_whole};
 ghost use Rattle.settings.specs.Parts.{or_empty};
 ghost use Rattle.area.specs.Spread.{Sited, Spread};
 
-use merge::heap::Cursor;
+use merge::heap::{Cursor, MOST_RUNS};
 
 // The cursors of the runs in run order: the first `count` of them. There is no heap, so there is room for the most that a state has.
 #[derive(Clone, Copy)]
 pub struct Runs {
-    pub cursors: [Cursor; 17],
+    pub cursors: [Cursor; MOST_RUNS],
     pub count: usize,
 }
 
@@ -44,7 +44,7 @@ pub fn cursors_of(state: &[u8], active: usize, area: usize) -> Runs
         at: start,
         end: stop,
         run: 0,
-    }; 17];
+    }; MOST_RUNS];
     for passed in 0..n {
         let from = at + 8;
         let next = from + raw::number::<8>(state, at) as usize;

@@ -1,4 +1,5 @@
-// Freezing: the active run becomes an image, 'first among the frozen', and is emptied.
+// Freezing: the active run becomes an image, 'first among the frozen', and is emptied. `active` and `area` are places in the state that is written, and
+// `Sited` speaks of its bytes, so that no struct beside the state could hold it.
 ghost use Rattle.std.specs.Prelude.{◌≡◌, true};
 ghost use Rattle.paper.specs.Lists.{is_empty};
 ghost use Rattle.paper.specs.Store.{runs_of};

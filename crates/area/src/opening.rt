@@ -1,4 +1,4 @@
-// Opening: the images that a host lends, one after the other in one slice, with the length of each.
+// Opening: the images that a host lends, one after the other in one slice, with the length of each: the C interface has them so.
 ghost use Rattle.std.specs.Prelude.{◌≡◌, true, ◌+◌, ◌*◌, ◌≤◌, length, drop};
 ghost use Rattle.paper.specs.Lists.{total};
 ghost use Rattle.paper.specs.Calls.{open_runs, images_in};
@@ -32,6 +32,7 @@ pub fn open_check(images: &[u8], lengths: &[u64]) -> Result<u64, BadRun>
     let mut clock: u64 = 0;
     for (i, n) in lengths.iter().enumerate() {
         let (image, behind) = split_image(rest, *n);
+        // What a closure under `map_err` would make of the error stays unknown to the proof.
         match run::image::verdict(image) {
             Ok(latest) => clock = clock.max(latest),
             Err(why) => return Err(BadRun { place: i + 1, why }),

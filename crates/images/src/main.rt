@@ -32,7 +32,7 @@ fn told(image: &[u8]) -> Result<(), BadImage> {
     run::image::verdict(image).map(|_| ())
 }
 
-// The first n bytes, or all that there are.
+// The first n bytes, or all that there are. `n` stands beside the buffer below, since the bytes behind an image are written and judged too.
 pub(crate) fn front(s: &[u8], n: usize) -> &[u8] {
     &s[..n.min(s.len())]
 }

@@ -22,6 +22,7 @@ pub struct KeyStamp {
     pub time: u64,
 }
 
+// No derive: the later timestamp is the lesser.
 impl Ord for KeyStamp {
     ghost cmp = { flip_args (on (λ k. k.time) nat_cmp) };
 
@@ -72,6 +73,7 @@ impl KeyStamp {
         Self::new(Self::TS_RANGE_END)
     }
 
+    // As in the original's `key.rs`.
     pub fn ts(self) -> u64
         ensures { result ≡ self.time }
     {

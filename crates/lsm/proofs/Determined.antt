@@ -24,7 +24,7 @@ use Rattle.lsm.specs.Lying.{LiesIn, FromOn}
 use Rattle.lsm.specs.Pairs.{pair_bytes, one_pair, fitting, pair_at, PairAt, OwnFrom}
 use Rattle.lsm.specs.Answers.{answer_in, value_in, Says}
 use Rattle.lsm.specs.Seeking.{SoughtAt, PastKey, LowAt, Sought}
-use Rattle.lsm.specs.Shown.{shown, left_in, coming_from, Answered}
+use Rattle.lsm.specs.Shown.{shown, left_in, coming_from, OverAfter, Answered}
 use Rattle.merge.specs.Unread.{unread}
 use Rattle.merge.specs.declared.heap.Heap.{Heap}
 use Rattle.lsm.specs.declared.answer.Span.{Span}
@@ -113,21 +113,20 @@ rest : List Pair → List Pair
 rest [] = []
 rest (p ∷ ps) = ps
 
--- the pairs that come where a walk goes on after a pair, or none where it has ended
+-- the pairs that come where a walk goes on after a pair, or begins anew where it has ended
 abbrev pub still : Bytes → ℕ → Bound → std.Option Span → Heap → List Pair
-still s r hi None h = []
-still s r hi (Some p) h = shown r hi (left_in s (Some p)) (unread s h)
+still s r hi o h = shown r hi (left_in s o) (unread s h)
 
-rest-still : (s : Bytes) (r : ℕ) (hi : Bound) (h : Heap) (o : std.Option Span) → still s r hi o h ≡ rest (coming_from s r hi o h)
+rest-still : (s : Bytes) (r : ℕ) (hi : Bound) (h : Heap) (o : std.Option Span) → OverAfter o s r hi h → still s r hi o h ≡ rest (coming_from s r hi o h)
 unfolding rest
-rest-still s r hi h None = refl
-rest-still s r hi h (Some p) = refl
+rest-still s r hi h None e = e
+rest-still s r hi h (Some p) e = refl
 
--- `next_pair`: two walks from one place are at the same pair, and the same pairs come after it
+-- `next_pair`: two walks from one place are at the same pair, and the same pairs come after it, where they go on; after the end none
 pub answered-same : (s : Bytes) (r : ℕ) (hi : Bound) (ps : List Pair) (h g : Heap) (a b : std.Option Span) → Answered s r hi ps h a → Answered s r hi ps g b
     → (answer_in s a ≡ answer_in s b) × (still s r hi a h ≡ still s r hi b g)
 answered-same s r hi ps h g a b x y =
     let e : coming_from s r hi a h ≡ coming_from s r hi b g = x.same ∙ sym y.same in (
       first-answer s r hi h a ∙ ap first e ∙ sym (first-answer s r hi g b),
-      rest-still s r hi h a ∙ ap rest e ∙ sym (rest-still s r hi g b),
+      rest-still s r hi h a x.over ∙ ap rest e ∙ sym (rest-still s r hi g b y.over),
     )

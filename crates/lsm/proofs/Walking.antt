@@ -25,7 +25,7 @@ use Rattle.lsm.specs.declared.answer.Span.{Span}
 use Rattle.merge.specs.Cursors.{nowhere}
 use Rattle.merge.specs.Unread.{unread, Sound, least}
 use Rattle.merge.specs.Steps.{Passed}
-use Rattle.lsm.specs.Shown.{shown, coming, to_do, GoneOn, Inside, Walked, left_in}
+use Rattle.lsm.specs.Shown.{shown, coming, to_do, GoneOn, Inside, Over, Walked, left_in}
 use Rattle.merge.specs.declared.heap.Heap.{Heap}
 use Rattle.key.specs.declared.Place.{Place}
 use Rattle.lsm.specs.declared.walk.Mark.{Mark}
@@ -142,14 +142,14 @@ gone-on (Leaving p) s h n start n' start' a b g = omega arith
 pub from : (s : Bytes) (r : ℕ) (hi : Bound) (ps ps' : List Pair) (start start' n n' : ℕ) (h : Heap) (m : Mark) → Walked s r hi ps' start' n' h m → ps' ≡ ps → start' + 1 ≤ start → n ≤ n' + 1
     → Walked s r hi ps start n h m
 from s r hi ps ps' start start' n n' h m k e a b =
-    record { sound = k.sound; inside = k.inside; same = k.same ∙ e; on = gone-on m s h n start n' start' a b k.on }
+    record { sound = k.sound; inside = k.inside; same = k.same ∙ e; on = gone-on m s h n start n' start' a b k.on; over = k.over }
 
 -- ---- a loop over walks
 -- where it begins, at the first pair or after one
 pub begun : (s : Bytes) (r : ℕ) (hi : Bound) (h : Heap) (o : std.Option Span) (m : Mark) → InAnswer s o → m ≡ option_map_or Leaving o Looking
-    → Inside s m × (coming m s r hi h ≡ shown r hi (left_in s o) (unread s h))
-begun s r hi h None m i e = rw e (tt, refl)
-begun s r hi h (Some p) m i e = rw e (i, refl)
+    → Inside s m × (coming m s r hi h ≡ shown r hi (left_in s o) (unread s h)) × Over m s r hi h
+begun s r hi h None m i e = rw e (tt, refl, tt)
+begun s r hi h (Some p) m i e = rw e (i, refl, tt)
 
 abbrev pub turns : Mark → Bytes → Heap → ℕ
 turns (Found p) s h = 0

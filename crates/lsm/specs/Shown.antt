@@ -61,12 +61,20 @@ Inside s Ended = Unit {0}
 Inside s Looking = Unit {0}
 Inside s (Leaving p) = InBytes s p
 
+-- where a walk ended, the heap that it left shows no pair either, so that a walk that is begun on it ends at once
+abbrev pub Over : Mark → Bytes → ℕ → Bound → Heap → Type 0
+Over (Found p) s r hi h = Unit {0}
+Over Ended s r hi h = shown r hi none (unread s h) ≡ []
+Over Looking s r hi h = Unit {0}
+Over (Leaving p) s r hi h = Unit {0}
+
 -- a walk at read number r up to hi, of the pairs ps and with so much to do, by n steps at least
 pub record Walked (s : Bytes) (r : ℕ) (hi : Bound) (ps : List Pair) (start n : ℕ) (h : Heap) (m : Mark) : Type 0 where
   pub sound : Sound s h
   pub inside : Inside s m
   pub same : coming m s r hi h ≡ ps
   pub on : GoneOn m s h n start
+  pub over : Over m s r hi h
 
 -- ---- from one pair to the next
 -- the key that is left first, where a walk goes on after a pair
@@ -84,8 +92,14 @@ abbrev pub coming_from : Bytes → ℕ → Bound → std.Option Span → Heap �
 coming_from s r hi None h = []
 coming_from s r hi (Some p) h = pair_at s p ∷ shown r hi (left_in s (Some p)) (unread s h)
 
+-- the same of an answer
+abbrev pub OverAfter : std.Option Span → Bytes → ℕ → Bound → Heap → Type 0
+OverAfter None s r hi h = shown r hi none (unread s h) ≡ []
+OverAfter (Some p) s r hi h = Unit {0}
+
 -- of the pairs ps the first is found, or there is none
 pub record Answered (s : Bytes) (r : ℕ) (hi : Bound) (ps : List Pair) (h : Heap) (o : std.Option Span) : Type 0 where
   pub sound : Sound s h
   pub inside : InAnswer s o
   pub same : coming_from s r hi o h ≡ ps
+  pub over : OverAfter o s r hi h

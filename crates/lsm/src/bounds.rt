@@ -16,7 +16,7 @@ pub fn bound_by(kind: u64, key: &[u8]) -> Bound<&[u8]>
     }
 }
 
-// Whether a key is not above the upper bound.
+// Whether a key is not above the upper bound. std's `contains` asks both bounds at once, and a walk asks them apart.
 pub fn is_below(high: Bound<&[u8]>, key: &[u8]) -> bool
     ensures { result ≡ below (bound_of high.entry) key.now }
 {

@@ -1,4 +1,5 @@
-// What a reader sees of runs and own writes that lie packed in one lent slice. Answers are places in that slice, so that the caller copies once.
+// What a reader sees of runs and own writes that lie packed in one lent slice. Answers are places in that slice, so that the caller copies once: so are the
+// ends of a run and of the own writes (`RunAt`, `OwnAt`, `Readable`), and a slice of their own would lose where they lie.
 #![tactic(auto)]
 
 pub mod answer;

@@ -59,15 +59,15 @@ impl Reader<'_> {
     // The first pair of the own pairs from `start` to `end` on top of those of a walk that found a pair, or none.
     pub fn first_over(
         self,
-        heap: &mut Heap,
+        mut heap: Heap,
         found: Option<Span>,
         start: usize,
         end: usize,
     ) -> Option<Span>
-        requires { Standing self.s.now self.read (bound_of self.high) heap.old found × OwnAt self.s.now start end }
+        requires { Standing self.s.now self.read (bound_of self.high) heap found × OwnAt self.s.now start end }
         ensures { Says self.entry.s.now
             (first (put_all (keep (pair_up_to (bound_of self.entry.high)) (own_in self.entry.s.now start end))
-            (coming_from self.entry.s.now self.entry.read (bound_of self.entry.high) found heap.old))) result }
+            (coming_from self.entry.s.now self.entry.read (bound_of self.entry.high) found heap))) result }
     {
         // Pairs differ in length, so where the next one starts is known behind this one alone.
         let mut shown = found;
@@ -81,7 +81,7 @@ impl Reader<'_> {
                 return Some(p);
             }
             if self.same_key(shown, p) {
-                shown = self.next_pair(heap, shown);
+                shown = self.next_pair(&mut heap, shown);
             }
             at = p.ve;
         }

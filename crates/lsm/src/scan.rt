@@ -42,6 +42,6 @@ impl View {
         };
         let found = reader.next_pair(&mut heap, None);
         let start = super::overlay::own_from(s, self.own, self.stop, low);
-        reader.first_over(&mut heap, found, start, self.stop)
+        reader.first_over(heap, found, start, self.stop)
     }
 }

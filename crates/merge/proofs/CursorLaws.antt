@@ -6,8 +6,8 @@ use mathlib.Core.List.{◌∷◌}
 use Prim.Native.Nat.{◌-◌, ◌≤◌, ◌<◌}
 use borrow.Author.Tests.{leb-true, ltb-true, le-leb, lt-ltb}
 use lib.Dec.{leb, ltb}
-use Rattle.std.specs.Bool.{◌==◌}
-use Rattle.std.specs.Ordering.{nat_cmp, ordering_then, ordering_index}
+use Rattle.std.specs.Ordering as test
+use Rattle.std.specs.Ordering.{nat_cmp, ordering_then}
 use Rattle.std.specs.declared.cmp.Ordering.{Ordering}
 use Rattle.std.specs.declared.cmp.Ordering.TheVariants.{Less, Equal, Greater}
 use Rattle.raw.specs.Orders.{ordering}
@@ -96,13 +96,13 @@ left-run s c h = (key.packed-run (part s c.at (c.end - c.at)) (lawful-is s c h).
 
 -- ---- the order of cursors, by std's comparisons
 -- an answer is `Less` where the paper's is
-less_is : (o : Ordering) → ordering_index o == 0 ≡ is_lt (ordering o)
+less_is : (o : Ordering) → test.is_lt o ≡ is_lt (ordering o)
 less_is Less = refl
 less_is Equal = refl
 less_is Greater = refl
 
 pub before_is : (s : Bytes) (a b : Cursor) (versions runs : Ordering) (r : Bool) → ordering versions ≡ cmp_version (version_at s a.at) (version_at s b.at) → runs ≡ nat_cmp a.run b.run
-    → r ≡ (ordering_index (ordering_then versions runs) == 0) → r ≡ bef s a b
+    → r ≡ test.is_lt (ordering_then versions runs) → r ≡ bef s a b
 unfolding bef
 before_is s a b versions runs r v n e =
     e ∙ less_is (ordering_then versions runs) ∙ ap is_lt (ordering-then versions runs ∙ ap₂ then_by v (ap ordering n ∙ compare-numbers a.run b.run))

@@ -21,7 +21,8 @@ impl Cursor {
     };
 }
 
-// The cursors in use are the first `len`. Memory is fixed, so there are places for the most runs that there can be.
+// The cursors in use are the first `len`. Memory is fixed, so there are places for the most runs that there can be. That they are over records and in order
+// (`lawful`, `Sound`) is no ghost field, since it speaks of the bytes, which a heap does not hold.
 #[derive(Clone, Copy)]
 pub struct Heap {
     pub cursors: [Cursor; MOST_RUNS],

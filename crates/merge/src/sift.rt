@@ -6,7 +6,6 @@ ghost use Rattle.merge.specs.Cursors.{nowhere, live, bef};
 ghost use Rattle.merge.specs.Unread.{cursors_of};
 
 use super::heap::{Cursor, Heap};
-use std::cmp::Ordering;
 
 impl Cursor {
     // Whether it comes before another: by the versions that they stand at, and for versions equal in key and timestamp by run order.
@@ -14,8 +13,9 @@ impl Cursor {
         requires { (live s.now self ≡ true) × (live s.now other ≡ true) }
         ensures { result ≡ bef s.now self other }
     {
-        let order = key::compare_versions(s, self.at, other.at).then(self.run.cmp(&other.run));
-        order == Ordering::Less
+        key::compare_versions(s, self.at, other.at)
+            .then(self.run.cmp(&other.run))
+            .is_lt()
     }
 }
 

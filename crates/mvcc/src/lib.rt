@@ -188,6 +188,7 @@ pub fn fits(history: &[u8], count: usize, entries: usize, hashes: usize) -> bool
 }
 
 // Moves the entries from `cut` to `end` to the front of a room and writes a new one behind them; tells how many bytes the history then has.
+// What stays moves within the one room, so `cut` and `end` are places in it.
 pub fn enter(room: &mut [u8], cut: usize, end: usize, number: u64, hashes: &[u8]) -> usize
     requires { (cut ≤ end) × (end ≤ length room.old) × ((end - cut) + 16 + length hashes.now ≤ length room.old) × (length hashes.now % 4 ≡ 0) × (is_some (history_read (part room.old cut (end - cut))) ≡ true) }
     ensures { (result ≡ length (history_bytes (history_in (part room.old cut (end - cut)) ++ (make_commit number (set_hashes hashes.now) ∷ [])))) × (room.new ≡ over room.old 0 (history_bytes (history_in (part room.old cut (end - cut)) ++ (make_commit number (set_hashes hashes.now) ∷ [])))) }

@@ -18,7 +18,7 @@ use reply::{Refusal, Room};
 use run::BadImage;
 use settings::Settings;
 
-// ---- the parts of an opened store
+// ---- the parts of an opened store. The settings stand beside the state that is written.
 
 // Writes the clock at 72, the handle counter 0 at 80, and no reader row (from 88), commit or active version: the number of a list's bytes stands in
 // front of it.
@@ -59,7 +59,7 @@ fn write_opened(state: &mut [u8], st: Settings, clock: u64, images: &[u8], lengt
 
 // ---- the call
 
-// Why an opening is refused for a run that is not good: 10 or 11, with its place.
+// Why an opening is refused for a run that is not good: 10 or 11, with its place. It is no `From`, since neither type is this crate's.
 fn refused_for(bad: BadRun) -> Refusal
     ensures { refusal_of result ≡ refused_for bad.place bad.why }
 {

@@ -41,7 +41,7 @@ fn field(s: &[u8]) -> Option<(&[u8], &[u8])>
 }
 
 // The entry in front of s, and the bytes behind it, if s begins with a whole one.
-fn first(s: &[u8]) -> Option<(Entry<'_>, &[u8])>
+pub fn first(s: &[u8]) -> Option<(Entry<'_>, &[u8])>
     ensures { entry_read result ≡ pair_stream.get s.now }
 {
     let (key, rest) = field(s)?;
@@ -145,7 +145,7 @@ fn put_entry(s: &mut [u8], at: usize, key: &[u8], value: &[u8])
 
 // Writes value at key among the own writes that the first `used` bytes of their room are; an own write of the key
 // before gives its bytes back, and what stands behind it moves once. A deletion is a write of the empty value. Returns
-// how many bytes the entries take after it.
+// how many bytes the entries take after it. What is behind the `used` bytes is written, so the room is lent with their number.
 pub fn put(room: &mut [u8], used: usize, key: &[u8], value: &[u8]) -> usize
     requires { (used ≤ length room.old) × (is_overlay (take used room.old) ≡ true) × (own_size (insert cmp_pair (pair key.now value.now) (pairs_in (take used room.old))) ≤ length room.old) }
     ensures { (result ≡ own_size (insert cmp_pair (pair key.now value.now) (pairs_in (take used room.old)))) × (room.new ≡ over room.old 0 (put_all pair_stream (insert cmp_pair (pair key.now value.now) (pairs_in (take used room.old))))) }

@@ -1,5 +1,6 @@
 // Functions for the comparison with the original Rust: a scan and a get over packed runs that a program in another language lends, and the verdict on
-// an image. They are a test harness. The caller answers for the packed bytes, since nothing here checks them.
+// an image. They are a test harness. The caller answers for the packed bytes, since nothing here checks them. It calls by the C interface, so a view
+// comes as numbers, and so does what is told.
 #![tactic(auto)]
 
 ghost use Rattle.std.specs.Prelude.{◌≡◌, ◌+◌, ◌≤◌, ◌<◌, length};

@@ -12,7 +12,7 @@ use std::cmp::Ordering;
 
 // ---- numbers
 
-// The N bytes at `at` as a number, the most significant first.
+// The N bytes at `at` as a number, the most significant first. N is open, and std reads 2, 4 or 8 bytes; a `fold` would ask its callers for its sums.
 pub fn number<const N: usize>(s: &[u8], at: usize) -> u64
     requires there { at + N ≤ length s.now }
     requires narrow { N ≤ 8 }
@@ -45,7 +45,7 @@ pub fn put_number<const N: usize>(s: &mut [u8], at: usize, v: u64)
 
 // ---- copies and moves
 
-// Writes `src` at `at`.
+// Writes `src` at `at`: std's copy, under the word `over` in which the contracts above speak.
 pub fn copy_at(s: &mut [u8], at: usize, src: &[u8])
     requires { at + length src.now ≤ length s.old }
     ensures { s.new ≡ over s.old at src.now }
@@ -63,7 +63,7 @@ pub fn put_sized<const N: usize>(s: &mut [u8], at: usize, x: &[u8])
     copy_at(s, at + N, x);
 }
 
-// Moves the n bytes at `from` to `to`; the two places may overlap.
+// Moves the n bytes at `from` to `to`; the two places may overlap, so they are places in one slice. It is std's move, under the word `over`.
 pub fn shift(s: &mut [u8], from: usize, to: usize, n: usize)
     requires { (from + n ≤ length s.old) × (to + n ≤ length s.old) }
     ensures { s.new ≡ over s.old to (part s.old from n) }
@@ -73,7 +73,7 @@ pub fn shift(s: &mut [u8], from: usize, to: usize, n: usize)
 
 // ---- order
 
-// Compares a with b: at the first byte that differs, or a prefix first.
+// Compares a with b: at the first byte that differs, or a prefix first. It says once that std's order of bytes is the paper's order of keys.
 pub fn compare(a: &[u8], b: &[u8]) -> Ordering
     ensures { ordering result ≡ cmp_key a.now b.now }
 {

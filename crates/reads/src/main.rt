@@ -26,7 +26,8 @@ fn write_pair(s: &[u8], p: Span)
     write(p.value(s));
 }
 
-// Program `answers` has these three for its own lines, which differ. Writes an answer and gives the next: 'from the same upper bound and the last key as an excluded lower bound'.
+// Writes an answer and gives the next: 'from the same upper bound and the last key as an excluded lower bound'. This function and the two above it stand in
+// program `answers` too: a crate for them would need contracts and edits of its own, more than they are.
 fn follow(s: &[u8], v: &View, answer: Option<Span>, high: Bound<&[u8]>) -> Option<Span>
     requires { Readable s.now v.now × InAnswer s.now answer }
     ensures { InAnswer s.now result }

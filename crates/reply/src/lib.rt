@@ -21,7 +21,7 @@ pub enum Room {
 }
 
 impl Room {
-    // The number for a kind of room.
+    // The number for a kind of room. Each kind has an arm, as in the document's table, which gives all of them one number.
     #[tactic(auto, unfolding(paper::specs::Refusals::room_number))]
     pub fn number(self) -> u64
         ensures { result ≡ room_number (room_of self) }
@@ -59,7 +59,7 @@ pub enum Refusal {
 }
 
 impl Refusal {
-    // The number for a refusal.
+    // The number for a refusal. The document has no 8 here, and one number for all rooms, so these are no discriminants.
     #[tactic(auto, unfolding(paper::specs::Refusals::refusal_number))]
     pub fn number(self) -> u64
         ensures { result ≡ refusal_number (refusal_of self) }
@@ -89,7 +89,7 @@ pub struct Begun {
     pub read: u64,
 }
 
-// A scan's pair: how many bytes key and value have that now stand in the out buffers. A scan at its end answers `None`. So does a get where the key is
+// A scan's pair: how many bytes key and value have that stand in the out buffers. A scan at its end answers `None`. So does a get where the key is
 // absent, which else answers the length of the value in the out buffer; and a commit without writes, which else answers the number under which they are
 // stored.
 #[derive(Clone, Copy, Debug, PartialEq, Eq)]

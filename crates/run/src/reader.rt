@@ -43,6 +43,7 @@ impl<'a> Reader<'a> {
     pub fn after(self) -> usize
         ensures { result ≡ after_at self.entry.src.now self.entry.at }
     {
+        // `_` would say too little of what stands there.
         match self.current() {
             Some(Ok(place)) => place.ve,
             Some(Err(Cut)) => self.src.len(),

@@ -1,4 +1,4 @@
-// One record at an offset, checked; and the order of versions at their places.
+// One record at an offset, checked; and the order of versions at their places. A key and its stamp stand side by side, since the key is lent from elsewhere.
 ghost use Rattle.std.specs.Prelude.{◌≡◌, ◌≤◌, length};
 ghost use Rattle.paper.specs.Lists.{is_lt};
 ghost use Rattle.paper.specs.Keys.{cmp_version};

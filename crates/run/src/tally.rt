@@ -6,7 +6,8 @@ ghost use Rattle.run.specs.Tallies.{tally_of, counted};
 
 use crate::places::Places;
 
-// What is known of the records so far.
+// What is known of the records so far. Without one the latest timestamp is 0, as the scope document has it, and the earliest the largest that there is; an
+// `Option` of both would be undone by every caller but one.
 #[derive(Clone, Copy, Debug, PartialEq, Eq)]
 pub struct Tally {
     pub count: usize,

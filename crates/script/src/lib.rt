@@ -25,7 +25,8 @@ use words::{Command, Lines};
 // 'script line not understood (program only; the next line is still read)'
 const NOT_UNDERSTOOD: u64 = 13;
 
-// ---- the calls, each with its answer behind the line number
+// ---- the calls, each with its answer behind the line number. The state and the page are two loans that each call takes anew: a struct of both would have to
+// be given back after each.
 
 fn begin(state: &mut [u8], page: &mut Page<'_>)
     ensures { Answers (some Call.begin) state.old page.old state.new page.new }
@@ -138,8 +139,7 @@ fn open(state: &mut [u8])
         active: 8192,
         area: 16384,
     };
-    let none = [0u64; 1];
-    let _ = store::open(state, settings, b"", &none[0..0]);
+    let _ = store::open(state, settings, b"", &[]);
 }
 
 // The whole run, from the input's bytes to the output's: 'at most 32,768 bytes (more: the single line `0 13`)'. The output stands at the front of `out`, as

@@ -75,6 +75,7 @@ fn absent(page: &mut Page<'_>)
 
 // ---- the replies
 
+// These are no trait, as `host` has one for its values: two of them take the out buffers too, in which what they show stands.
 #[tactic(auto, unfolding(crate::specs::OnLines::behind_number, reply::specs::Read::reply_read, paper::specs::Calls::reply_number, paper::specs::Replay::fields_of))]
 pub fn settled(page: &mut Page<'_>, reply: Result<(), Refusal>)
     ensures { Shows page.old page.new (behind_number (reply_read (told_settled reply) [] [])) }

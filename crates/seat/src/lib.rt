@@ -20,7 +20,8 @@ pub fn shape_in(state: &[u8]) -> Shape
     Settings::at(state).shape()
 }
 
-// The transaction of a handle: where its place begins, the number at which it reads, and whether it is open.
+// The transaction of a handle: where its place begins, the number at which it reads, and whether it is open. A closed one has a place
+// and a number too.
 #[derive(Clone, Copy, Debug, PartialEq, Eq)]
 pub struct Seat {
     pub place: usize,

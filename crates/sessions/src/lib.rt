@@ -30,7 +30,7 @@ fn enter(state: &mut [u8], shape: Shape, start: usize, new: Begun)
     table::add(&mut state[88..end], new.read);
 }
 
-// Why no reader is added, as a begin's refusal.
+// Why no reader is added, as a begin's refusal. It is no `From`, since neither type is this crate's.
 fn row_refused(why: RowRefusal) -> Refusal
     ensures { refusal_of result ≡ row_refusal why }
 {
@@ -54,6 +54,7 @@ pub fn begin(state: &mut [u8]) -> Result<Begun, Refusal>
     let start = shape.place_at(index);
     let clock = raw::number::<8>(state, 72);
     let counter = raw::number::<8>(state, 80);
+    // By `map_err(row_refused)?` the exit is known by names alone that a proof cannot cite.
     if let Err(why) = table::check(shape.rows_in(state), clock) {
         return Err(row_refused(why));
     }

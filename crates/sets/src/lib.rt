@@ -1,4 +1,5 @@
-// Sets of hashes in lent bytes: 4 bytes a hash, big-endian, strictly rising, so that none stands in a set twice.
+// Sets of hashes in lent bytes: 4 bytes a hash, big-endian, strictly rising, so that none stands in a set twice. A set is a
+// slice and no type that says that it rises: each is read from a transaction's place or an entry for one question.
 #![tactic(auto)]
 
 ghost use Rattle.std.specs.Prelude.{◌≡◌, true, length, map, Err};
@@ -50,7 +51,8 @@ pub fn among(set: &[u8], h: u64) -> bool
     find_hash(set, h).is_ok()
 }
 
-// Puts h, which is not among the n hashes in front of a room, before the one at place i: those from there on move up by one.
+// Puts h, which is not among the n hashes in front of a room, before the one at place i: those from there on move up by one. Behind the n hashes is room that
+// is written, so the room is lent with their number.
 pub fn insert_hash(room: &mut [u8], n: usize, i: usize, h: u64)
     requires { (4 * n + 4 ≤ length room.old) × (rises compare (hashes_of n room.old) ≡ true) × (Err i ≡ found_in h (hashes_of n room.old)) }
     ensures { room.new ≡ over room.old 0 (hashes.form (insert compare h (hashes_of n room.old))) }

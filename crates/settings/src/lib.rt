@@ -25,7 +25,7 @@ pub struct Settings {
     pub area: u64,
 }
 
-// Where the parts of a state lie, made once for each call. The reader rows begin at 88; each part ends where the next begins: the rows at `history`,
+// Where the parts of a state lie. The reader rows begin at 88; each part ends where the next begins: the rows at `history`,
 // the history at `active`, the active run at `area`, the run area at `places`. Then come `count` places of `stride` bytes, and the state ends with them.
 // The other numbers say how much there may be: overlay bytes, read and write hashes of a transaction, entries and hashes of the history.
 #[derive(Clone, Copy)]
@@ -48,6 +48,7 @@ pub struct Shape {
 
 // That settings are in range is asked of a caller, and no invariant of the type: a host gives any numbers, and `in_ranges` tells.
 
+// Whether a number is in a range, as the paper's `in_range` has it.
 fn within(v: u64, least: u64, most: u64) -> bool
     ensures { result ≡ in_range (range v least most) }
 {

@@ -1,5 +1,5 @@
 // The calls of the host over one lent buffer. Each but `open` first judges the whole state, 9, whatever the lent memory holds; then the call itself, which
-// may rely on a sound state. A contract says, on every input, what the reply tells and every byte of the lent buffers at exit.
+// may rely on a sound state: a clause of it, since the state is written, and a struct that holds it as sound could not be lent for that. A contract says, on every input, what the reply tells and every byte of the lent buffers at exit.
 #![tactic(auto)]
 
 ghost use Rattle.std.specs.Prelude.{◌≡◌, true, false, length, MatchResult};

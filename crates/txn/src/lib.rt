@@ -25,7 +25,8 @@ use settings::Shape;
 pub mod check; // check.rt: the check of a place
 
 // What a transaction goes by: how many bytes of own writes it may hold, how many hashes of its read set and of its write
-// set, and whether it is in serializable mode; in the other mode its sets stay empty.
+// set, and whether it is in serializable mode; in the other mode its sets stay empty. That a place has room for these and is in
+// order is asked of its caller: the place is lent anew for each call, and a ghost field beside a `&mut` gets no proof.
 #[derive(Clone, Copy)]
 pub struct Rooms {
     pub own: usize,

@@ -1,5 +1,6 @@
 // What a commit does to the active run: 'each overlay entry becomes a version with that timestamp in the active run'.
-// The run's records lie packed in the front of its room, and the own writes outside of it.
+// The run's records lie packed in the front of its room, and the own writes outside of it. `packed` is a clause and no type's fact: the same bytes are moved
+// and written in one loan.
 #![tactic(auto)]
 
 ghost use Rattle.std.specs.Prelude.{◌≡◌, true, ◌+◌, ◌-◌, ◌≤◌, leb, length, take};

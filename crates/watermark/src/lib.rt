@@ -1,6 +1,6 @@
 // The reader table: the timestamps at which transactions read, strictly rising, and the number of readers at each. Here it lies in two lent slices, row i
 // being times[i] and counts[i] for each i below `used`; `rows` has it in one lent slice of rows. The two forms stand side by side: one trait for both would
-// need a type for each form that reads and one for each that writes, which is more than the few lines that stand twice.
+// need a type for each form that reads and one for each that writes, which is more than the few lines that stand twice. Both forms are promised, and behind `used` is room that is written.
 #![tactic(auto)]
 
 mod pass;

@@ -76,7 +76,7 @@ pub enum Command<'a> {
     Freeze,
 }
 
-// The number that digits make, where they are digits and the number fits 64 bits.
+// The number that digits make, where they are digits and the number fits 64 bits. std's `parse` reads text, and would take a sign in front.
 fn digits(s: &[u8]) -> Option<u64>
     ensures { result ≡ digits_from 0 s.now }
 {
@@ -164,6 +164,7 @@ pub fn understood(line: &[u8]) -> Option<Command<'_>>
 {
     let mut fields = line.split(|b| *b == b' ');
     let letter = fields.next()?;
+    // A slice pattern's other arm would say too little of the slice.
     if letter.len() != 1 {
         return None;
     }

@@ -14,7 +14,7 @@ ghost use Rattle.writing.specs.Writes.{written, room_for, write_on};
 use reply::{Refusal, Room};
 use txn::Rooms;
 
-// ---- the check for room
+// ---- the check for room. The place stands beside the rooms, since it is the slice that is written.
 
 // Whether a place has room for a write. 'Overlay after the write above its limit' is told before 'hash new and set full'.
 fn room(place: &[u8], rooms: Rooms, key: &[u8], value: &[u8], hash: u64) -> Result<(), Refusal>

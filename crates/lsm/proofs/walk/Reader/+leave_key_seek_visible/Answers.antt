@@ -3,6 +3,7 @@ use Rattle.lsm.proofs.Walking.{nothing-shown, leaves-on, leaves-off, fewer-unrea
 use Rattle.merge.proofs.HeapSteps.{root_live}
 use Rattle.merge.proofs.CursorLaws.{live-record}
 use Rattle.paper.specs.Bounds.{Bound, below}
+use Rattle.std.proofs.Math.Option.{none}
 use Rattle.lsm.specs.Edges.{bound_of}
 use native.Mathlib.Omega.{arith}
 use mathlib.Core.Path.{sym, ap, ◌∙◌}
@@ -10,7 +11,7 @@ use Rattle.lsm.proofs.walk.Reader.+leave_key_seek_visible.Goals as goal
 
 pub leave_key-returns-then-heap-eq0 : goal.leave_key-returns-then-heap-eq0
 leave_key-returns-then-heap-eq0 t c =
-    record { sound = c.requires.0; inside = tt; same = sym (nothing-shown _ _ _ _ c.requires.0 _ c.if-heap-eq0.true); on = tt }
+    record { sound = c.requires.0; inside = tt; same = sym (nothing-shown _ _ _ _ c.requires.0 _ c.if-heap-eq0.true); on = tt; over = nothing-shown _ _ _ _ c.requires.0 none c.if-heap-eq0.true }
 
 pub leave_key-returns-then-key_is : goal.leave_key-returns-then-key_is
 leave_key-returns-then-key_is t c =
@@ -23,19 +24,15 @@ leave_key-returns t c =
 
 pub seek_visible-returns-then-heap-eq0 : goal.seek_visible-returns-then-heap-eq0
 seek_visible-returns-then-heap-eq0 t c =
-    record { sound = c.requires; inside = tt; same = sym (nothing-shown _ _ _ _ c.requires _ c.if-heap-eq0.true); on = tt }
+    record { sound = c.requires; inside = tt; same = sym (nothing-shown _ _ _ _ c.requires _ c.if-heap-eq0.true); on = tt; over = nothing-shown _ _ _ _ c.requires none c.if-heap-eq0.true }
 
 pub seek_visible-version_at-version-requires : goal.seek_visible-version_at-version-requires
 seek_visible-version_at-version-requires t c = live-record _ _ (root_live _ _ c.requires (omega arith))
 
 pub seek_visible-returns-then-not-is_below : goal.seek_visible-returns-then-not-is_below
 seek_visible-returns-then-not-is_below t c =
-    record {
-      sound = c.requires;
-      inside = tt;
-      same = sym (seek-end _ _ _ _ c.requires (omega arith) _ c.version_at-version.ensures _ c.from-p.ensures (sym c.if-not-is_below.true ∙ c.is_below.ensures ∙ ap (below (bound_of c.args.self.high)) c.key.ensures));
-      on = tt;
-    }
+    let e = seek-end _ _ _ _ c.requires (omega arith) _ c.version_at-version.ensures _ c.from-p.ensures (sym c.if-not-is_below.true ∙ c.is_below.ensures ∙ ap (below (bound_of c.args.self.high)) c.key.ensures) in
+    record { sound = c.requires; inside = tt; same = sym e; on = tt; over = e }
 
 pub seek_visible-returns-then-self-version : goal.seek_visible-returns-then-self-version
 seek_visible-returns-then-self-version t c =
@@ -51,6 +48,7 @@ seek_visible-returns-then-p t c =
       inside = inside-it _ 0 Bound.unbounded _ c.requires (omega arith) _ c.version_at-version.ensures _ c.from-p.ensures;
       same = seek_found _ _ _ _ c.requires (omega arith) _ c.version_at-version.ensures _ c.from-p.ensures (sym c.if-not-is_below.false ∙ c.is_below.ensures ∙ ap (below (bound_of c.args.self.high)) c.key.ensures) c.if-self-version.false c.if-p.true;
       on = tt;
+      over = tt;
     }
 
 pub seek_visible-returns : goal.seek_visible-returns

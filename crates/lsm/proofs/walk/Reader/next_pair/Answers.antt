@@ -9,4 +9,4 @@ pub loop-mark-init : goal.loop-mark-init
 loop-mark-init c =
     let e : c.map_or-mark.result ≡ option_map_or Leaving c.args.after Looking = search rules in
     let b = begun c.args.self.s.now _ _ c.args.heap.now c.args.after _ c.requires.1 e in
-    record { sound = c.requires.0; inside = b.0; same = b.1 }
+    record { sound = c.requires.0; inside = b.0; same = b.1; over = b.2 }

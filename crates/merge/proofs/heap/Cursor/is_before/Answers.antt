@@ -1,7 +1,5 @@
 use mathlib.Core.Path.{ap, ◌∙◌}
-use Rattle.std.specs.Bool.{◌==◌}
-use Rattle.std.specs.Ordering.{ordering_index}
-use Rattle.std.specs.declared.cmp.Ordering.{Ordering}
+use Rattle.std.specs.Ordering.{is_lt}
 use Rattle.merge.proofs.CursorLaws.{live-record, before_is}
 use Rattle.merge.proofs.heap.Cursor.is_before.Goals as goal
 
@@ -10,5 +8,5 @@ compare_versions-requires c = (live-record _ _ c.requires.0, live-record _ _ c.r
 
 pub returns : goal.returns
 returns c =
-    before_is c.args.s.now c.args.self c.args.other c.compare_versions.result c.cmp.result c.eq.result c.compare_versions.ensures c.cmp.ensures
-    (c.eq.ensures ∙ ap (λ (o : Ordering). ordering_index o == 0) c.then-order.ensures)
+    before_is c.args.s.now c.args.self c.args.other c.compare_versions.result c.cmp.result c.is_lt.result c.compare_versions.ensures c.cmp.ensures
+    (c.is_lt.ensures ∙ ap is_lt c.then.ensures)
