@@ -46,7 +46,7 @@ impl Span {
         requires { InBytes s.now self }
         ensures { result ≡ is_lt (cmp_key (pair_at s.now self).key key.now) }
     {
-        self.key(s) < key
+        raw::compare(self.key(s), key).is_lt()
     }
 
     // The pair, unless it is a deletion, whose value is empty.

@@ -16,13 +16,14 @@ pub fn bound_by(kind: u64, key: &[u8]) -> Bound<&[u8]>
     }
 }
 
-// Whether a key is not above the upper bound. std's `contains` asks both bounds at once, and a walk asks them apart.
+// Whether a key is not above the upper bound. std's `contains` asks both bounds at once, and a walk asks them apart; and its `<` and `<=` on slices go
+// byte by byte, where `compare` takes many bytes at a time.
 pub fn is_below(high: Bound<&[u8]>, key: &[u8]) -> bool
     ensures { result ≡ below (bound_of high.entry) key.now }
 {
     match high {
-        Bound::Included(hi) => key <= hi,
-        Bound::Excluded(hi) => key < hi,
+        Bound::Included(hi) => raw::compare(key, hi).is_le(),
+        Bound::Excluded(hi) => raw::compare(key, hi).is_lt(),
         Bound::Unbounded => true,
     }
 }
@@ -32,8 +33,8 @@ pub fn is_above(low: Bound<&[u8]>, key: &[u8]) -> bool
     ensures { result ≡ above (bound_of low.entry) key.now }
 {
     match low {
-        Bound::Included(lo) => lo <= key,
-        Bound::Excluded(lo) => lo < key,
+        Bound::Included(lo) => raw::compare(lo, key).is_le(),
+        Bound::Excluded(lo) => raw::compare(lo, key).is_lt(),
         Bound::Unbounded => true,
     }
 }

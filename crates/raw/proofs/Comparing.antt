@@ -3,12 +3,13 @@
 use native.Mathlib.Omega.{arith}
 use native.Mathlib.Nat.{le_antisymm}
 use mathlib.Core.Path.{◌≡◌, refl, sym, ap, ap₂, ◌∙◌}
-use mathlib.Core.Bool.{Bool, true, false}
+use mathlib.Core.Bool.{Bool, true, false, not}
 use mathlib.Core.List.{[], ◌∷◌}
 use Prim.Native.Nat as nat
 use Prim.Native.Nat.{ℕ, ◌+◌, ◌≤◌, ◌<◌, compare}
 use lib.Dec.{ltb}
 use borrow.Author.Tests.{ltb-true, ltb-false}
+use Rattle.std.specs.Ordering as test
 use Rattle.std.specs.Ordering.{nat_cmp, ordering_then, MatchOrdering}
 use Rattle.std.specs.Cmp.{ranks}
 use Rattle.std.specs.Cmp.Lexicographic.{slice_cmp}
@@ -17,6 +18,7 @@ use Rattle.std.specs.declared.cmp.Ordering.TheVariants.{Less, Equal, Greater}
 use Rattle.paper.specs.Lists.{then_by, is_lt}
 use Rattle.paper.specs.Keys.{Bytes, cmp_key}
 use Rattle.paper.proofs.Order.{turned, compare_same, compare-turn, lt-compare, compare-lt}
+use Rattle.paper.proofs.KeyOrder.{key-order}
 use Rattle.raw.specs.Orders.{ordering}
 
 -- answers that say the same are the same
@@ -83,3 +85,18 @@ compare-keys [] (y ∷ ys) = refl
 compare-keys (x ∷ xs) [] = refl
 compare-keys (x ∷ xs) (y ∷ ys) =
     ordering-then (nat_cmp x y) (slice_cmp nat_cmp xs ys) ∙ ap₂ then_by (compare-numbers x y) (compare-keys xs ys)
+
+-- the tests of an answer: whether it says 'before', and 'not behind'
+pub says-before : (a b : Bytes) (o : Ordering) → ordering o ≡ cmp_key a b → test.is_lt o ≡ is_lt (cmp_key a b)
+says-before a b Less e = ap is_lt e
+says-before a b Equal e = ap is_lt e
+says-before a b Greater e = ap is_lt e
+
+pub says-at_most : (a b : Bytes) (o : Ordering) → ordering o ≡ cmp_key a b → test.is_le o ≡ not (is_lt (cmp_key b a))
+unfolding turned
+says-at_most a b o e = tested o e ∙ ap (λ p. not (is_lt p)) (sym (key-order.turn a b))
+  where
+    tested : (o : Ordering) → ordering o ≡ cmp_key a b → test.is_le o ≡ not (is_lt (turned (cmp_key a b)))
+    tested Less e = ap (λ p. not (is_lt (turned p))) e
+    tested Equal e = ap (λ p. not (is_lt (turned p))) e
+    tested Greater e = ap (λ p. not (is_lt (turned p))) e

@@ -5,5 +5,6 @@ pub mod Octets
 pub mod Numbers
 pub mod Moves
 pub mod Comparing
+pub mod Heads
 pub mod Slices
 pub mod Saying

@@ -73,9 +73,21 @@ pub fn shift(s: &mut [u8], from: usize, to: usize, n: usize)
 
 // ---- order
 
+// From so many bytes on, std compares 64 of them at a time, however early they differ; so of these the first few are looked at one by one.
+const LONG: usize = 64;
+
+const FEW: usize = 8;
+
 // Compares a with b: at the first byte that differs, or a prefix first. It says once that std's order of bytes is the paper's order of keys.
 pub fn compare(a: &[u8], b: &[u8]) -> Ordering
     ensures { ordering result ≡ cmp_key a.now b.now }
 {
+    if LONG <= a.len() && LONG <= b.len() {
+        for i in 0..FEW {
+            if a[i] != b[i] {
+                return a[i].cmp(&b[i]);
+            }
+        }
+    }
     a.cmp(b)
 }

@@ -1,16 +1,16 @@
 use mathlib.Core.Path.{ap, sym, ◌∙◌}
-use Rattle.raw.proofs.Slices.{less_is, at_most_is}
+use Rattle.raw.proofs.Comparing.{says-before, says-at_most}
 use Rattle.paper.specs.Bounds.{below}
 use Rattle.lsm.specs.Edges.{bound_of}
 use Rattle.lsm.proofs.bounds.is_below.Goals as goal
 
 pub returns-in-Included : goal.returns-in-Included
 unfolding below
-returns-in-Included c = at_most_is c.args.key.now c.in-Included.hi.now _ c.le.ensures ∙ ap (λ b. below (bound_of b) c.args.key.now) (sym c.in-Included.is)
+returns-in-Included c = c.is_le.ensures ∙ says-at_most c.args.key.now c.in-Included.hi.now c.compare.result c.compare.ensures ∙ ap (λ b. below (bound_of b) c.args.key.now) (sym c.in-Included.is)
 
 pub returns-in-Excluded : goal.returns-in-Excluded
 unfolding below
-returns-in-Excluded c = less_is c.args.key.now c.in-Excluded.hi.now _ c.lt.ensures ∙ ap (λ b. below (bound_of b) c.args.key.now) (sym c.in-Excluded.is)
+returns-in-Excluded c = c.is_lt.ensures ∙ says-before c.args.key.now c.in-Excluded.hi.now c.compare-in-Excluded.result c.compare-in-Excluded.ensures ∙ ap (λ b. below (bound_of b) c.args.key.now) (sym c.in-Excluded.is)
 
 pub returns-in-Unbounded : goal.returns-in-Unbounded
 unfolding below
