@@ -47,12 +47,11 @@ impl Count {
         if verdict != plain::verdict(image) {
             self.differ = self.differ.wrapping_add(1);
         }
-        let seen = match verdict {
-            Ok(()) => &mut self.good,
-            Err(BadImage::Broken) => &mut self.broken,
-            Err(BadImage::Foreign) => &mut self.foreign,
-        };
-        *seen = seen.wrapping_add(1);
+        match verdict {
+            Ok(()) => self.good = self.good.wrapping_add(1),
+            Err(BadImage::Broken) => self.broken = self.broken.wrapping_add(1),
+            Err(BadImage::Foreign) => self.foreign = self.foreign.wrapping_add(1),
+        }
         self
     }
 }
