@@ -4,7 +4,8 @@
 
 ghost use Rattle.std.specs.Prelude.{◌≤◌};
 
-use std::io;
+// Where the lines go: standard output, by its number.
+const STDOUT_FILENO: i32 = 1;
 
 // How many states were checked, and how many of them were sound.
 #[derive(Clone, Copy, Default)]
@@ -23,10 +24,22 @@ impl Count {
     }
 }
 
-fn report(rt: &impl Print, name: &str, count: Count) -> io::Result<()> {
-    let checked = count.checked;
-    let sound = count.sound;
-    println!(rt; "{name}: checked {checked}, sound {sound}")
+// Writes a text. Where the output takes nothing more, the run goes on all the same.
+fn print(text: &[u8]) {
+    io::write_all(STDOUT_FILENO, text);
+}
+
+// A text and a number behind it.
+fn print_number(text: &[u8], n: u64) {
+    print(text);
+    io::print_decimal(STDOUT_FILENO, n);
+}
+
+fn report(name: &[u8], count: Count) {
+    print(name);
+    print_number(b": checked ", count.checked);
+    print_number(b", sound ", count.sound);
+    print(b"\n");
 }
 
 // ---- a sound state
@@ -210,34 +223,29 @@ fn scattered(s: &mut [u8; 848], from: usize, n: usize) -> Count {
 }
 
 // The parts of the state, each up to where the next begins.
-fn parts(rt: &impl Print, s: &mut [u8; 848]) -> io::Result<()> {
+fn parts(s: &mut [u8; 848]) {
     report(
-        rt,
-        "settings, clock and counter, one byte changed",
+        b"settings, clock and counter, one byte changed",
         changes(s, 0, 88),
-    )?;
-    report(rt, "reader rows", changes(s, 88, 144))?;
-    report(rt, "history", changes(s, 144, 196))?;
-    report(rt, "active run", changes(s, 196, 268))?;
-    report(rt, "run area", changes(s, 268, 464))?;
-    report(rt, "an open transaction", changes(s, 464, 592))?;
-    report(rt, "a free place", changes(s, 592, 720))?;
-    report(rt, "a closed transaction", changes(s, 720, 848))
+    );
+    report(b"reader rows", changes(s, 88, 144));
+    report(b"history", changes(s, 144, 196));
+    report(b"active run", changes(s, 196, 268));
+    report(b"run area", changes(s, 268, 464));
+    report(b"an open transaction", changes(s, 464, 592));
+    report(b"a free place", changes(s, 592, 720));
+    report(b"a closed transaction", changes(s, 720, 848));
 }
 
-fn main(rt: HostRuntime) -> io::Result<()> {
+fn main() {
     let mut state = [0u8; 848];
     let mut as_built = Count::default();
     build(&mut state);
     as_built.judge(&state);
-    report(&rt, "as built", as_built)?;
-    parts(&rt, &mut state)?;
-    report(&rt, "cut short", cuts(&state))?;
-    report(&rt, "four bytes changed", struck(&mut state, 10000))?;
-    report(
-        &rt,
-        "all behind the settings",
-        scattered(&mut state, 72, 10000),
-    )?;
-    report(&rt, "all bytes", scattered(&mut state, 0, 10000))
+    report(b"as built", as_built);
+    parts(&mut state);
+    report(b"cut short", cuts(&state));
+    report(b"four bytes changed", struck(&mut state, 10000));
+    report(b"all behind the settings", scattered(&mut state, 72, 10000));
+    report(b"all bytes", scattered(&mut state, 0, 10000));
 }

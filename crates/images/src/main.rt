@@ -8,7 +8,9 @@ mod build; // build.rt: images of small versions, of lists of them, and of singl
 mod trips; // trips.rt: images written, frozen and read back
 
 use run::BadImage;
-use std::io;
+
+// Where the lines go: standard output, by its number.
+const STDOUT_FILENO: i32 = 1;
 
 // How many images were told as what, and on how many the two verdicts differ.
 #[derive(Clone, Copy, Default)]
@@ -45,22 +47,33 @@ impl Count {
         if verdict != plain::verdict(image) {
             self.differ = self.differ.wrapping_add(1);
         }
-        let seen = match verdict {
-            Ok(()) => &mut self.good,
-            Err(BadImage::Broken) => &mut self.broken,
-            Err(BadImage::Foreign) => &mut self.foreign,
-        };
-        *seen = seen.wrapping_add(1);
+        match verdict {
+            Ok(()) => self.good = self.good.wrapping_add(1),
+            Err(BadImage::Broken) => self.broken = self.broken.wrapping_add(1),
+            Err(BadImage::Foreign) => self.foreign = self.foreign.wrapping_add(1),
+        }
         self
     }
 }
 
-fn report(rt: &impl Print, name: &str, c: Count) -> io::Result<()> {
-    let good = c.good;
-    let broken = c.broken;
-    let foreign = c.foreign;
-    let differ = c.differ;
-    println!(rt; "{name}: good {good}, broken {broken}, foreign {foreign}, differ {differ}")
+// Writes a text. Where the output takes nothing more, the run goes on all the same.
+fn print(text: &[u8]) {
+    io::write_all(STDOUT_FILENO, text);
+}
+
+// A text and a number behind it.
+fn print_number(text: &[u8], n: u64) {
+    print(text);
+    io::print_decimal(STDOUT_FILENO, n);
+}
+
+fn report(name: &[u8], c: Count) {
+    print(name);
+    print_number(b": good ", c.good);
+    print_number(b", broken ", c.broken);
+    print_number(b", foreign ", c.foreign);
+    print_number(b", differ ", c.differ);
+    print(b"\n");
 }
 
 // ---- damaged copies of the first n bytes
@@ -208,78 +221,71 @@ fn too_long(s: &mut [u8], bytes: &[u8]) -> Count {
 // ---- round trips
 
 // The image of n records, read back and followed.
-fn read(rt: &impl Print, image: &[u8], n: usize) -> io::Result<()> {
-    let bytes = image.len();
-    let verdict = number(told(image));
-    let back = trips::read_back(image, n);
-    let followed = trips::followed(image, n);
-    print!(rt;
-        "records {n}: bytes {bytes}, verdict {verdict}, read back with the end {back}, followed {followed}"
-    )
+fn read(image: &[u8], n: usize) {
+    print_number(b"records ", n as u64);
+    print_number(b": bytes ", image.len() as u64);
+    print_number(b", verdict ", number(told(image)));
+    print_number(b", read back with the end ", trips::read_back(image, n));
+    print_number(b", followed ", trips::followed(image, n));
 }
 
 // Their records frozen apart from where they lie, in place, and where the two places overlap.
-fn trip(rt: &impl Print, s: &mut [u8], n: usize) -> io::Result<()> {
+fn trip(s: &mut [u8], n: usize) {
     let long = trips::image(s, n);
-    read(rt, front(s, long), n)?;
-    let apart = trips::frozen(s, n, 100000, 50000);
-    let in_place = trips::frozen(s, n, 50000, 50000);
-    let nine = trips::frozen(s, n, 49991, 50000);
-    let twenty = trips::frozen(s, n, 49980, 50000);
-    println!(rt;
-        ", frozen apart {apart}, in place {in_place}, 9 bytes lower {nine}, 20 bytes lower {twenty}"
-    )
+    read(front(s, long), n);
+    print_number(b", frozen apart ", trips::frozen(s, n, 100000, 50000));
+    print_number(b", in place ", trips::frozen(s, n, 50000, 50000));
+    print_number(b", 9 bytes lower ", trips::frozen(s, n, 49991, 50000));
+    print_number(b", 20 bytes lower ", trips::frozen(s, n, 49980, 50000));
+    print(b"\n");
 }
 
 // Damaged copies of the image of four versions, its first n bytes.
-fn damage(rt: &impl Print, s: &mut [u8], n: usize) -> io::Result<()> {
-    report(rt, "whole image", Count::default().judged(s, n))?;
-    report(rt, "every cut", cuts(s, n))?;
-    report(rt, "every change of the mark", changes(s, n, 0, 3))?;
-    report(rt, "every change of the version", changes(s, n, 3, 5))?;
-    report(rt, "every change of the count", changes(s, n, 5, 9))?;
-    report(rt, "every change of the records", changes(s, n, 9, n))?;
-    report(rt, "versions from 2", versions(s, n, 2))?;
+fn damage(s: &mut [u8], n: usize) {
+    report(b"whole image", Count::default().judged(s, n));
+    report(b"every cut", cuts(s, n));
+    report(b"every change of the mark", changes(s, n, 0, 3));
+    report(b"every change of the version", changes(s, n, 3, 5));
+    report(b"every change of the count", changes(s, n, 5, 9));
+    report(b"every change of the records", changes(s, n, 9, n));
+    report(b"versions from 2", versions(s, n, 2));
     report(
-        rt,
-        "versions from 2, cut behind the version",
+        b"versions from 2, cut behind the version",
         versions(s, 5, 2),
-    )?;
+    );
     report(
-        rt,
-        "versions from 0, cut inside the version",
+        b"versions from 0, cut inside the version",
         versions(s, 4, 0),
-    )?;
-    report(rt, "zeros after the last record", overlong(s, n, 0))?;
-    report(rt, "other bytes after it", overlong(s, n, 255))
+    );
+    report(b"zeros after the last record", overlong(s, n, 0));
+    report(b"other bytes after it", overlong(s, n, 255));
 }
 
-fn lists(rt: &impl Print, s: &mut [u8]) -> io::Result<()> {
-    report(rt, "version 1 first of two", pairs(s, 1))?;
-    report(rt, "version 4 first of two", pairs(s, 4))?;
-    report(rt, "version 7 first of two", pairs(s, 7))?;
-    report(rt, "neighbours the wrong way round", swapped(s))?;
-    report(rt, "a version twice", doubled(s))?;
-    report(rt, "an empty key at each place", replaced(s, 8))?;
-    report(rt, "version 3 at each place", replaced(s, 3))
+fn lists(s: &mut [u8]) {
+    report(b"version 1 first of two", pairs(s, 1));
+    report(b"version 4 first of two", pairs(s, 4));
+    report(b"version 7 first of two", pairs(s, 7));
+    report(b"neighbours the wrong way round", swapped(s));
+    report(b"a version twice", doubled(s));
+    report(b"an empty key at each place", replaced(s, 8));
+    report(b"version 3 at each place", replaced(s, 3));
 }
 
-fn lengths(rt: &impl Print, s: &mut [u8], bytes: &[u8]) -> io::Result<()> {
-    report(rt, "keys of 0 bytes", with_values(s, bytes, 0))?;
-    report(rt, "keys of 1 byte", with_values(s, bytes, 1))?;
-    report(rt, "keys of 65,535 bytes", with_values(s, bytes, 65535))?;
-    report(rt, "lengths of 65,536", too_long(s, bytes))
+fn lengths(s: &mut [u8], bytes: &[u8]) {
+    report(b"keys of 0 bytes", with_values(s, bytes, 0));
+    report(b"keys of 1 byte", with_values(s, bytes, 1));
+    report(b"keys of 65,535 bytes", with_values(s, bytes, 65535));
+    report(b"lengths of 65,536", too_long(s, bytes));
 }
 
-fn main(rt: HostRuntime) -> io::Result<()> {
+fn main() {
     let mut s = [0u8; 200000];
     let bytes = [107u8; 65536];
     let n = build::image_of(&mut s, b"\0\x01\x02\x04");
-    damage(&rt, &mut s, n)?;
-    lists(&rt, &mut s)?;
-    lengths(&rt, &mut s, &bytes)?;
+    damage(&mut s, n);
+    lists(&mut s);
+    lengths(&mut s, &bytes);
     for n in [0, 1, 2, 1000] {
-        trip(&rt, &mut s, n)?;
+        trip(&mut s, n);
     }
-    Ok(())
 }

@@ -56,7 +56,7 @@ fn rises(s: &[u8], a: usize, b: usize) -> bool {
     let ka = a.wrapping_add(2);
     let kb = b.wrapping_add(2);
     compared(s, ka, n, kb, m)
-        .then(compared(s, kb.wrapping_add(m), 8, ka.wrapping_add(n), 8))
+        .then_with(|| compared(s, kb.wrapping_add(m), 8, ka.wrapping_add(n), 8))
         .is_lt()
 }
 

@@ -4,23 +4,37 @@
 
 use reply::Refusal;
 use settings::Settings;
-use std::io;
+
+// Where the lines go: standard output, by its number.
+const STDOUT_FILENO: i32 = 1;
 
 // ---- what is printed
 
-fn line<T: Drop>(rt: &impl Print, what: &str, reply: Result<T, Refusal>) -> io::Result<()> {
-    let number = reply::number(reply);
-    println!(rt; "{what}: {number}")
+// Writes a text. Where the output takes nothing more, the run goes on all the same.
+fn print(text: &[u8]) {
+    io::write_all(STDOUT_FILENO, text);
 }
 
-fn line_of_length(
-    rt: &impl Print,
-    what: &str,
-    got: Result<Option<usize>, Refusal>,
-) -> io::Result<()> {
+// A text and a number behind it.
+fn print_number(text: &[u8], n: u64) {
+    print(text);
+    io::print_decimal(STDOUT_FILENO, n);
+}
+
+fn line<T: Drop>(what: &[u8], reply: Result<T, Refusal>) {
+    print(what);
+    print_number(b": ", reply::number(reply));
+    print(b"\n");
+}
+
+fn line_of_length(what: &[u8], got: Result<Option<usize>, Refusal>) {
     match got {
-        Ok(Some(length)) => println!(rt; "{what}: 0, a value of {length} bytes"),
-        _ => line(rt, what, got),
+        Ok(Some(length)) => {
+            print(what);
+            print_number(b": 0, a value of ", length as u64);
+            print(b" bytes\n");
+        }
+        _ => line(what, got),
     }
 }
 
@@ -46,42 +60,29 @@ fn begun(state: &mut [u8]) -> u64 {
 }
 
 // 'Key or value longer than 65,535 (get, put, delete)'.
-fn writes(
-    rt: &impl Print,
-    state: &mut [u8],
-    handle: u64,
-    letters: &[u8],
-    longest: &[u8],
-) -> io::Result<()> {
+fn writes(state: &mut [u8], handle: u64, letters: &[u8], longest: &[u8]) {
     let put = store::put(state, handle, longest, longest);
-    line(rt, "put a key and a value of 65,535 bytes", put)?;
+    line(b"put a key and a value of 65,535 bytes", put);
     let put = store::put(state, handle, letters, b"v");
-    line(rt, "put a key of 65,536 bytes", put)?;
+    line(b"put a key of 65,536 bytes", put);
     let put = store::put(state, handle, b"k", letters);
-    line(rt, "put a value of 65,536 bytes", put)?;
+    line(b"put a value of 65,536 bytes", put);
     let deleted = store::delete(state, handle, letters);
-    line(rt, "delete a key of 65,536 bytes", deleted)
+    line(b"delete a key of 65,536 bytes", deleted);
 }
 
-fn gets(
-    rt: &impl Print,
-    state: &mut [u8],
-    handle: u64,
-    letters: &[u8],
-    longest: &[u8],
-    out: &mut [u8],
-) -> io::Result<()> {
+fn gets(state: &mut [u8], handle: u64, letters: &[u8], longest: &[u8], out: &mut [u8]) {
     let got = store::get(state, handle, longest, out);
-    line_of_length(rt, "get the key of 65,535 bytes", got)?;
+    line_of_length(b"get the key of 65,535 bytes", got);
     let got = store::get(state, handle, letters, out);
-    line_of_length(rt, "get a key of 65,536 bytes", got)
+    line_of_length(b"get a key of 65,536 bytes", got);
 }
 
 // Key and value become a version, and that an image.
-fn stored(rt: &impl Print, state: &mut [u8], handle: u64) -> io::Result<()> {
-    line(rt, "commit them", store::commit(state, handle))?;
-    line(rt, "end", store::end(state, handle))?;
-    line(rt, "freeze them", store::freeze(state))
+fn stored(state: &mut [u8], handle: u64) {
+    line(b"commit them", store::commit(state, handle));
+    line(b"end", store::end(state, handle));
+    line(b"freeze them", store::freeze(state));
 }
 
 // ---- runs
@@ -95,27 +96,21 @@ fn frozen(state: &mut [u8]) -> Result<(), Refusal> {
     store::freeze(state)
 }
 
-fn freezes(rt: &impl Print, state: &mut [u8]) -> io::Result<()> {
+fn freezes(state: &mut [u8]) {
     for place in 1..=17 {
-        let number = reply::number(frozen(state));
-        println!(rt; "freeze run {place}: {number}")?;
+        let reply = frozen(state);
+        print_number(b"freeze run ", place);
+        line(b"", reply);
     }
-    Ok(())
 }
 
-fn open(
-    rt: &impl Print,
-    state: &mut [u8],
-    what: &str,
-    images: &[u8],
-    lengths: &[u64],
-) -> io::Result<()> {
-    line(rt, what, store::open(state, roomy(), images, lengths))
+fn open(state: &mut [u8], what: &[u8], images: &[u8], lengths: &[u64]) {
+    line(what, store::open(state, roomy(), images, lengths));
 }
 
 // ---- all of it
 
-fn run(rt: &impl Print, state: &mut [u8], out: &mut [u8]) -> io::Result<()> {
+fn run(state: &mut [u8], out: &mut [u8]) {
     let letters = [107u8; 65536];
     let longest = &letters[..65535];
     // 17 images without a record, one after the other.
@@ -124,19 +119,19 @@ fn run(rt: &impl Print, state: &mut [u8], out: &mut [u8]) -> io::Result<()> {
         image.copy_from_slice(b"RUN\0\x01\0\0\0\0");
     }
     let lengths = [9u64; 17];
-    open(rt, state, "open without runs", &images, &[])?;
+    open(state, b"open without runs", &images, &[]);
     let handle = begun(state);
-    writes(rt, state, handle, &letters, longest)?;
-    gets(rt, state, handle, &letters, longest, out)?;
-    stored(rt, state, handle)?;
-    open(rt, state, "open anew without runs", &images, &[])?;
-    freezes(rt, state)?;
-    open(rt, state, "open with 16 runs", &images, &lengths[..16])?;
-    open(rt, state, "open with 17 runs", &images, &lengths)
+    writes(state, handle, &letters, longest);
+    gets(state, handle, &letters, longest, out);
+    stored(state, handle);
+    open(state, b"open anew without runs", &images, &[]);
+    freezes(state);
+    open(state, b"open with 16 runs", &images, &lengths[..16]);
+    open(state, b"open with 17 runs", &images, &lengths);
 }
 
-fn main(rt: HostRuntime) -> io::Result<()> {
+fn main() {
     let mut state = [0u8; 600000];
     let mut out = [0u8; 65536];
-    run(&rt, &mut state, &mut out)
+    run(&mut state, &mut out);
 }
