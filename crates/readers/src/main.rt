@@ -4,28 +4,39 @@
 
 mod told;
 
-use std::io;
+ghost use Rattle.std.specs.Prelude.{◌≡◌, length, map};
+ghost use Rattle.paper.specs.Calls.{try_add_row, try_remove_row, try_smallest, try_timestamps};
+ghost use Rattle.watermark.specs.Table.{rows_of, added_says, removed_says, smallest_says, timestamps_says, LeftRows};
+
 use watermark::Row;
 use watermark::reply::{AddRefusal, RemoveRefusal, Unsound};
 
-// One of the library's two tables, lent four rows.
+// Where the lines go: standard output, by its number.
+const STDOUT_FILENO: i32 = 1;
+
+// One of the library's two tables, lent four rows. Whichever it is, a call answers of the rows in use what the paper's call does, and leaves them so.
 trait Form {
-    fn name() -> &'static str;
+    // The word that its lines begin with, and the space behind it.
+    fn name() -> &'static [u8];
 
-    fn add_reader(rows: &mut [Row; 4], used: usize, time: u64) -> Result<usize, AddRefusal>;
+    fn add_reader(rows: &mut [Row; 4], used: usize, time: u64) -> Result<usize, AddRefusal>
+        ensures { LeftRows (added_says result) (try_add_row 4 (rows_of used rows.old) time) rows.old rows.new };
 
-    fn remove_reader(rows: &mut [Row; 4], used: usize, time: u64) -> Result<usize, RemoveRefusal>;
+    fn remove_reader(rows: &mut [Row; 4], used: usize, time: u64) -> Result<usize, RemoveRefusal>
+        ensures { LeftRows (removed_says result) (try_remove_row 4 (rows_of used rows.old) time) rows.old rows.new };
 
-    fn smallest(rows: &[Row; 4], used: usize) -> Result<Option<u64>, Unsound>;
+    fn smallest(rows: &[Row; 4], used: usize) -> Result<Option<u64>, Unsound>
+        ensures { smallest_says result ≡ try_smallest 4 (rows_of used rows.now) };
 
-    fn timestamps(rows: &[Row; 4], used: usize) -> Result<usize, Unsound>;
+    fn timestamps(rows: &[Row; 4], used: usize) -> Result<usize, Unsound>
+        ensures { timestamps_says result ≡ try_timestamps 4 (rows_of used rows.now) };
 }
 
 struct Rows;
 
 impl Form for Rows {
-    fn name() -> &'static str {
-        "rows"
+    fn name() -> &'static [u8] {
+        b"rows "
     }
 
     fn add_reader(rows: &mut [Row; 4], used: usize, time: u64) -> Result<usize, AddRefusal> {
@@ -48,26 +59,36 @@ impl Form for Rows {
 // The rows in two slices.
 struct Two;
 
-fn times_of(rows: &[Row; 4]) -> [u64; 4] {
+fn times_of(rows: &[Row; 4]) -> [u64; 4]
+    ensures long { 4 ≡ length result }
+    ensures each { result ≡ map (λ r. r.time) rows.now }
+{
     rows.map(|row| row.time)
 }
 
-fn counts_of(rows: &[Row; 4]) -> [u64; 4] {
+fn counts_of(rows: &[Row; 4]) -> [u64; 4]
+    ensures long { 4 ≡ length result }
+    ensures each { result ≡ map (λ r. r.count) rows.now }
+{
     rows.map(|row| row.count)
 }
 
-fn fill(rows: &mut [Row; 4], times: &[u64; 4], counts: &[u64; 4]) {
-    for (row, (time, count)) in rows.iter_mut().zip(times.iter().zip(counts)) {
+// The rows get these timestamps and counts, by the index: of what is written through a `zip` nothing is known.
+fn fill(rows: &mut [Row; 4], times: &[u64; 4], counts: &[u64; 4])
+    ensures times { map (λ r. r.time) rows.new ≡ times.now }
+    ensures counts { map (λ r. r.count) rows.new ≡ counts.now }
+{
+    for (i, row) in rows.iter_mut().enumerate() {
         *row = Row {
-            time: *time,
-            count: *count,
+            time: times[i],
+            count: counts[i],
         };
     }
 }
 
 impl Form for Two {
-    fn name() -> &'static str {
-        "two"
+    fn name() -> &'static [u8] {
+        b"two "
     }
 
     fn add_reader(rows: &mut [Row; 4], used: usize, time: u64) -> Result<usize, AddRefusal> {
@@ -120,123 +141,157 @@ impl Table {
     }
 }
 
-// The rest of a line of a call that writes.
-fn left(rt: &impl Print, t: &Table, number: u64) -> io::Result<()> {
-    print!(rt; ": {number}, {} in use:", t.used)?;
-    for row in &t.rows {
-        print!(rt; " {}*{}", row.time, row.count)?;
-    }
-    println!(rt; "")
+// ---- lines
+
+fn text(s: &[u8]) {
+    io::write_all(STDOUT_FILENO, s);
 }
 
-fn add<F: Form>(rt: &impl Print, mut t: Table, time: u64) -> io::Result<Table> {
+fn number(n: u64) {
+    io::print_decimal(STDOUT_FILENO, n);
+}
+
+// A number more on the line.
+fn also(n: u64) {
+    text(b", ");
+    number(n);
+}
+
+// The beginning of a line: the table and the call.
+fn head<F: Form>(call: &[u8]) {
+    text(F::name());
+    text(call);
+}
+
+// The rest of a line of a call that writes.
+fn left(t: &Table, reply: u64) {
+    text(b": ");
+    number(reply);
+    also(t.used as u64);
+    text(b" in use:");
+    for row in &t.rows {
+        text(b" ");
+        number(row.time);
+        text(b"*");
+        number(row.count);
+    }
+    text(b"\n");
+}
+
+fn add<F: Form>(mut t: Table, time: u64) -> Table {
     let reply = F::add_reader(&mut t.rows, t.used, time);
     t.used = reply.unwrap_or(t.used);
-    print!(rt; "{} add {time}", F::name())?;
-    left(rt, &t, told::number(reply))?;
-    Ok(t)
+    head::<F>(b"add ");
+    number(time);
+    left(&t, told::number(reply));
+    t
 }
 
-fn remove<F: Form>(rt: &impl Print, mut t: Table, time: u64) -> io::Result<Table> {
+fn remove<F: Form>(mut t: Table, time: u64) -> Table {
     let reply = F::remove_reader(&mut t.rows, t.used, time);
     t.used = reply.unwrap_or(t.used);
-    print!(rt; "{} remove {time}", F::name())?;
-    left(rt, &t, told::number(reply))?;
-    Ok(t)
+    head::<F>(b"remove ");
+    number(time);
+    left(&t, told::number(reply));
+    t
 }
 
 // The smallest timestamp, and how many there are.
-fn look<F: Form>(rt: &impl Print, t: &Table) -> io::Result<()> {
-    let name = F::name();
+fn look<F: Form>(t: &Table) {
     let smallest = F::smallest(&t.rows, t.used);
-    let number = told::number(smallest);
+    head::<F>(b"smallest: ");
+    number(told::number(smallest));
     match smallest {
-        Ok(Some(time)) => println!(rt; "{name} smallest: {number}, {time}")?,
-        Ok(None) => println!(rt; "{name} smallest: {number}, nobody")?,
-        Err(Unsound) => println!(rt; "{name} smallest: {number}")?,
+        Ok(Some(time)) => also(time),
+        Ok(None) => text(b", nobody"),
+        Err(Unsound) => {}
     }
+    text(b"\n");
     let timestamps = F::timestamps(&t.rows, t.used);
-    let number = told::number(timestamps);
-    match timestamps {
-        Ok(count) => println!(rt; "{name} timestamps: {number}, {count}"),
-        Err(Unsound) => println!(rt; "{name} timestamps: {number}"),
+    head::<F>(b"timestamps: ");
+    number(told::number(timestamps));
+    if let Ok(count) = timestamps {
+        also(count as u64);
     }
+    text(b"\n");
 }
 
-fn watermark_at(rt: &impl Print, t: &Table, clock: u64) -> io::Result<()> {
+fn watermark_at(t: &Table, clock: u64) {
     let mark = watermark::watermark(&times_of(&t.rows), &counts_of(&t.rows), t.used, clock);
-    let number = told::number(mark);
-    match mark {
-        Ok(time) => println!(rt; "two watermark at the clock {clock}: {number}, {time}"),
-        Err(Unsound) => println!(rt; "two watermark at the clock {clock}: {number}"),
+    text(b"two watermark at the clock ");
+    number(clock);
+    text(b": ");
+    number(told::number(mark));
+    if let Ok(time) = mark {
+        also(time);
     }
+    text(b"\n");
 }
 
 // P13: readers 4, 4, 9: smallest 4, two timestamps; remove 4: the same; remove 4: 9.
-fn p13<F: Form>(rt: &impl Print) -> io::Result<()> {
+fn p13<F: Form>() {
     let mut t = Table::of(&[]);
-    look::<F>(rt, &t)?;
-    t = add::<F>(rt, t, 4)?;
-    t = add::<F>(rt, t, 4)?;
-    t = add::<F>(rt, t, 9)?;
-    look::<F>(rt, &t)?;
-    t = remove::<F>(rt, t, 4)?;
-    look::<F>(rt, &t)?;
-    t = remove::<F>(rt, t, 4)?;
-    look::<F>(rt, &t)
+    look::<F>(&t);
+    t = add::<F>(t, 4);
+    t = add::<F>(t, 4);
+    t = add::<F>(t, 9);
+    look::<F>(&t);
+    t = remove::<F>(t, 4);
+    look::<F>(&t);
+    t = remove::<F>(t, 4);
+    look::<F>(&t);
 }
 
 // Every call of a table that is not sound gives 9, and leaves the rows.
-fn unsound<F: Form>(rt: &impl Print, t: Table) -> io::Result<()> {
-    add::<F>(rt, t, 5)?;
-    remove::<F>(rt, t, 4)?;
-    look::<F>(rt, &t)
+fn unsound<F: Form>(t: Table) {
+    add::<F>(t, 5);
+    remove::<F>(t, 4);
+    look::<F>(&t);
 }
 
-fn refusals<F: Form>(rt: &impl Print) -> io::Result<()> {
+fn refusals<F: Form>() {
     // Timestamps that fall, and that stay; a count of 0; rows past the end.
-    unsound::<F>(rt, Table::of(&[row(9, 1), row(4, 1)]))?;
-    unsound::<F>(rt, Table::of(&[row(4, 1), row(4, 1)]))?;
-    unsound::<F>(rt, Table::of(&[row(4, 0)]))?;
+    unsound::<F>(Table::of(&[row(9, 1), row(4, 1)]));
+    unsound::<F>(Table::of(&[row(4, 1), row(4, 1)]));
+    unsound::<F>(Table::of(&[row(4, 0)]));
     let full = Table::of(&[row(4, 1), row(5, 1), row(6, 1), row(7, 1)]);
     let mut past = full;
     past.used = 5;
-    unsound::<F>(rt, past)?;
+    unsound::<F>(past);
     // A full table: 5 for a new timestamp, and one reader more for one that is there.
-    add::<F>(rt, full, 3)?;
-    add::<F>(rt, full, 6)?;
+    add::<F>(full, 3);
+    add::<F>(full, 6);
     // A count at its end: 7; the next below it goes there.
     let most = Table::of(&[row(4, u64::MAX), row(5, u64::MAX - 1)]);
-    add::<F>(rt, most, 4)?;
-    add::<F>(rt, most, 5)?;
+    add::<F>(most, 4);
+    add::<F>(most, 5);
     // Nobody reads there: 8.
-    remove::<F>(rt, full, 8)?;
-    remove::<F>(rt, Table::of(&[]), 4)?;
-    Ok(())
+    remove::<F>(full, 8);
+    remove::<F>(Table::of(&[]), 4);
 }
 
 // Rows go one further for a new one in front, and one down where one goes; what stands past the rows stays.
-fn moves<F: Form>(rt: &impl Print) -> io::Result<()> {
+fn moves<F: Form>() {
     let mut t = Table::of(&[row(4, 2), row(9, 1), row(1, 1), row(2, 2)]);
     t.used = 2;
-    t = add::<F>(rt, t, 3)?;
-    t = add::<F>(rt, t, 6)?;
-    t = remove::<F>(rt, t, 3)?;
-    t = remove::<F>(rt, t, 9)?;
-    t = remove::<F>(rt, t, 4)?;
-    look::<F>(rt, &t)
+    t = add::<F>(t, 3);
+    t = add::<F>(t, 6);
+    t = remove::<F>(t, 3);
+    t = remove::<F>(t, 9);
+    t = remove::<F>(t, 4);
+    look::<F>(&t);
 }
 
-fn run<F: Form>(rt: &impl Print) -> io::Result<()> {
-    p13::<F>(rt)?;
-    refusals::<F>(rt)?;
-    moves::<F>(rt)
+fn run<F: Form>() {
+    p13::<F>();
+    refusals::<F>();
+    moves::<F>();
 }
 
-fn main(rt: HostRuntime) -> io::Result<()> {
-    run::<Two>(&rt)?;
-    run::<Rows>(&rt)?;
-    watermark_at(&rt, &Table::of(&[]), 12)?;
-    watermark_at(&rt, &Table::of(&[row(4, 2), row(9, 1)]), 12)?;
-    watermark_at(&rt, &Table::of(&[row(4, 0)]), 12)
+fn main() {
+    run::<Two>();
+    run::<Rows>();
+    watermark_at(&Table::of(&[]), 12);
+    watermark_at(&Table::of(&[row(4, 2), row(9, 1)]), 12);
+    watermark_at(&Table::of(&[row(4, 0)]), 12);
 }

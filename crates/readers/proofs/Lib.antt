@@ -1,0 +1,2 @@
+-- The laws of the program's two forms of the table.
+pub mod Columns

@@ -1,0 +1,8 @@
+-- The table in two slices is asked of the columns what the rows are asked.
+use Rattle.std.proofs.Common.{◌∙◌, rules}
+use Rattle.paper.specs.Calls.{try_smallest}
+use Rattle.readers.proofs.Columns.{asked-alike}
+use Rattle.readers.proofs.TwoForm.smallest.Goals as goal
+
+pub returns : goal.returns
+returns c = c.smallest.ensures ∙ asked-alike try_smallest c.args.used c.args.rows.now (search rules) c.times_of.ensures.each c.counts_of.ensures.each
