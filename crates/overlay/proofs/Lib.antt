@@ -5,3 +5,4 @@ pub mod Checking
 pub mod Finding
 pub mod Splitting
 pub mod Putting
+pub mod Answering

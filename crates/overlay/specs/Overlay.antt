@@ -1,11 +1,14 @@
 -- The overlay of a transaction as packed bytes: the entries that they hold, and where the own write of a key stands or would stand.
 -- Assumes nothing.
-use Prim.Native.Nat.{ℕ, ◌+◌, ◌-◌, Ordering}
-use Rattle.std.specs.Prelude.{Bool, false, ◌&&◌, List, [], ◌∷◌, length, Result, Ok, Err}
+use Prim.Native.Nat.{ℕ, ◌+◌, ◌-◌, ◌≤◌, Ordering}
+use Rattle.std.specs.Prelude as std
+use Rattle.std.specs.Prelude.{◌≡◌, Bool, false, ◌&&◌, List, [], ◌∷◌, length, Some, None, Result, Ok, Err}
+use Rattle.std.specs.Borrow.{Bor}
 use Rattle.std.proofs.Math.Option.{Option, none, some}
 use Rattle.paper.specs.Lists.{all, rises}
 use Rattle.paper.specs.Keys.{Bytes, Pair, cmp_key, cmp_pair}
 use Rattle.paper.specs.Store.{pair_size}
+use Rattle.paper.specs.Seen.{own_write}
 use Rattle.paper.specs.Sound.{sound_pair}
 use Rattle.raw.specs.Bytes.{part}
 use Rattle.layout.specs.Codec.{many}
@@ -48,3 +51,25 @@ spot Ordering.gt at p further = further
 unfoldable pub found_at : ℕ → Bytes → List Pair → Result Found ℕ
 found_at at k [] = Err at
 found_at at k (p ∷ ps) = spot (cmp_key k p.key) at p (found_at (at + pair_size p) k ps)
+
+-- the value that was found: the bytes from where it starts to where it ends
+abbrev pub value_at : Bytes → Result Found ℕ → Option Bytes
+value_at s (Ok f) = some (part s f.value (f.end - f.value))
+value_at s (Err gap) = none
+
+-- it lies between two indices
+abbrev pub Between : ℕ → ℕ → Result Found ℕ → Type 0
+Between at end (Ok f) = (at ≤ f.value) × (f.value ≤ f.end) × (f.end ≤ end)
+Between at end (Err gap) = Unit {0}
+
+-- the bytes of an answer
+abbrev pub answered : std.Option (Bor Bytes) → Option Bytes
+answered (Some v) = some v.now
+answered None = none
+
+-- The answer to what a transaction has written at a key: 'the transaction's own last write of a key'. Its own writes stand in s from one index to another, and the
+-- answer is the bytes of s where the search for the key finds the value.
+pub record Answered (s : Bytes) (at end : ℕ) (own : List Pair) (k : Bytes) (r : std.Option (Bor Bytes)) : Type 0 where
+  pub place : answered r ≡ value_at s (found_at at k own)
+  pub value : answered r ≡ own_write k own
+  pub inside : Between at end (found_at at k own)

@@ -2,17 +2,15 @@
 // value; the keys rise strictly. It takes the place of the original's `SkipMap`.
 #![tactic(auto)]
 
-ghost use Rattle.std.specs.Prelude.{◌≡◌, true, ◌++◌, ◌+◌, ◌-◌, ◌≤◌, ◌<◌, length, take, MatchOption};
-ghost use Rattle.std.proofs.Math.Option.{none, some};
+ghost use Rattle.std.specs.Prelude.{◌≡◌, true, ◌++◌, ◌+◌, ◌-◌, ◌≤◌, ◌<◌, length, take};
 ghost use Rattle.std.specs.Iterator.{YieldsFirstBy, item_count};
 ghost use Rattle.paper.specs.Lists.{insert};
 ghost use Rattle.paper.specs.Keys.{cmp_pair};
 ghost use Rattle.paper.specs.Store.{own_size};
-ghost use Rattle.paper.specs.Seen.{own_write};
 ghost use Rattle.raw.specs.Bytes.{over};
 ghost use Rattle.layout.specs.Codec.{sized, plain, put_all};
 ghost use Rattle.layout.specs.Layout.{pair_stream};
-ghost use Rattle.overlay.specs.Overlay.{pair, pairs_in, is_overlay, found_at};
+ghost use Rattle.overlay.specs.Overlay.{pair, pairs_in, is_overlay, found_at, Answered};
 ghost use Rattle.overlay.specs.Entries.{written, left, field_read, entry_read, Hole};
 
 use std::cmp::Ordering;
@@ -103,9 +101,9 @@ impl<'a> Own<'a> {
         Err(start)
     }
 
-    // What a transaction has written at a key: the value of its own write, if there is one.
+    // What a transaction has written at a key: the value of its own write, if there is one, where `find` says that it is.
     pub fn get(self, key: &[u8]) -> Option<&'a [u8]>
-        ensures { MatchOption result (own_write key.now (pairs_in self.entry.bytes.now) ≡ none) (λ v. own_write key.now (pairs_in self.entry.bytes.now) ≡ some v.now) }
+        ensures { Answered self.entry.bytes.now 0 (length self.entry.bytes.now) (pairs_in self.entry.bytes.now) key.now result }
     {
         let found = self.find(key).ok()?;
         Some(&self.bytes[found.value..found.end])

@@ -35,8 +35,11 @@ module _ (q : Bytes) (h : own_start ≤ length q) (o : own_held q ≡ true) (n :
   pub own-whole : is_overlay (part q own_start (own_start + n - own_start)) ≡ true
   own-whole = ap is_overlay (own-bytes (own_start + n - own_start) refl) ∙ (own-parts q o).1
 
+  pub own-part : part q own_start (own_start + n - own_start) ≡ part q own_start (own_end q - own_start)
+  own-part = own-bytes (own_start + n - own_start) refl
+
   pub own-pairs : pairs_in (part q own_start (own_start + n - own_start)) ≡ own_of q
-  own-pairs = ap pairs_in (own-bytes (own_start + n - own_start) refl)
+  own-pairs = ap pairs_in own-part
 
   -- in the room from there to the place's end
   rest : ℕ

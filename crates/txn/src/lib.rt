@@ -2,22 +2,21 @@
 // sets. It takes the place of the original's `Transaction`.
 #![tactic(auto)]
 
-ghost use Rattle.std.specs.Prelude.{◌≡◌, true, false, [], length, MatchOption};
+ghost use Rattle.std.specs.Prelude.{◌≡◌, true, false, [], length};
 ghost use Rattle.std.proofs.Math.Option.{none, some};
-ghost use Prim.Native.Nat.{◌+◌, ◌*◌, ◌≤◌, ◌<◌, compare};
+ghost use Prim.Native.Nat.{◌+◌, ◌-◌, ◌*◌, ◌≤◌, ◌<◌, compare};
 ghost use Rattle.paper.specs.Lists.{insert};
 ghost use Rattle.paper.specs.Keys.{cmp_pair};
 ghost use Rattle.paper.specs.Image.{big_endian};
 ghost use Rattle.paper.specs.Store.{make_txn, own_size, set_add, with_reads, with_writes};
-ghost use Rattle.paper.specs.Seen.{own_write};
 ghost use Rattle.paper.specs.Room.{overlay_fits, set_fits};
-ghost use Rattle.raw.specs.Bytes.{over};
+ghost use Rattle.raw.specs.Bytes.{part, over};
 ghost use Rattle.layout.specs.Codec.{flag_number};
 ghost use Rattle.layout.specs.Offsets.{place_mark, place_overlay};
 ghost use Rattle.layout.specs.Layout.{listed, pair_stream, hashes_stream, tag_of};
-ghost use Rattle.overlay.specs.Overlay.{pair, pairs_in};
+ghost use Rattle.overlay.specs.Overlay.{pair, Answered};
 ghost use Rattle.sets.specs.Sets.{set_hashes};
-ghost use Rattle.txn.specs.Place.{settings_of, rooms_in, place_of, stride_of, reads_at, writes_at, txn_in, orderly, used_at, own_start, own_of, own_held, set_of, set_held};
+ghost use Rattle.txn.specs.Place.{settings_of, rooms_in, place_of, stride_of, reads_at, writes_at, txn_in, orderly, used_at, own_start, own_end, own_of, own_held, set_of, set_held};
 
 use overlay::Own;
 use settings::Shape;
@@ -121,18 +120,18 @@ pub fn free(place: &mut [u8])
 
 // ---- own writes
 
-// The own writes in a place.
-fn own(place: &[u8]) -> Own<'_>
+// The own writes in a place, where they begin at index 32; where in them the own write of a key is, `find` tells.
+pub fn own(place: &[u8]) -> Own<'_>
     requires { (own_start ≤ length place.now) × (own_held place.now ≡ true) }
-    ensures { pairs_in result.bytes.now ≡ own_of place.now }
+    ensures { result.bytes.now ≡ part place.now own_start (own_end place.now - own_start) }
 {
     Own::new(&place[ENTRIES..ENTRIES + used_at(place, OVERLAY)])
 }
 
-// "the transaction's own last write of a key", if there is one.
+// "the transaction's own last write of a key", if there is one, where it stands in the place.
 pub fn own_write<'a>(place: &'a [u8], key: &[u8]) -> Option<&'a [u8]>
     requires { (own_start ≤ length place.now) × (own_held place.now ≡ true) }
-    ensures { MatchOption result (own_write key.now (own_of place.now) ≡ none) (λ v. own_write key.now (own_of place.now) ≡ some v.now) }
+    ensures { Answered place.now own_start (own_end place.now) (own_of place.now) key.now result }
 {
     own(place).get(key)
 }

@@ -3,6 +3,7 @@ pub mod Letters
 pub mod Handles
 pub mod Pieces
 pub mod Ends
+pub mod Places
 pub mod Calls
 pub mod ByLine
 pub mod Same

@@ -1,6 +1,7 @@
--- The call of a line determines the command that was read, but for where its bytes lie.
+-- The call of a line determines the command that was read: its bytes, and where in the line they stand.
 -- Assumes nothing.
 use mathlib.Core.Path.{◌≡◌, refl, sym, ap, ◌∙◌}
+use mathlib.Core.List.{List}
 use mathlib.Core.Option as maths
 use Prim.Native.Nat.{ℕ}
 use denote.Ref.{Bor}
@@ -8,9 +9,10 @@ use Rattle.std.specs.Prelude.{Option, Some, None, option_map}
 use Rattle.paper.specs.Keys.{Bytes}
 use Rattle.paper.specs.Bounds.{Bound, included, excluded, unbounded}
 use Rattle.paper.specs.Calls.{Call, opening, begin, get, scan, put, delete, commit, end, freeze}
-use Rattle.words.specs.Commands.{call_of}
+use Rattle.words.specs.Commands.{call_of, Within, places}
 use Rattle.words.specs.declared.Command.{Command}
 use Rattle.words.specs.declared.Command.TheVariants as command
+use Rattle.words.proofs.Places.{places-are}
 
 -- a reference to these bytes, at a place of no meaning
 abbrev pub lent : Bytes → Bor Bytes
@@ -58,6 +60,27 @@ back_is (Some (command.Commit h)) = refl
 back_is (Some (command.End h)) = refl
 back_is (Some command.Freeze) = refl
 
--- ---- commands of one call are the same command, with the same bytes
-pub command-same : (c d : Option Command) → call_of c ≡ call_of d → option_map placeless c ≡ option_map placeless d
-command-same c d e = sym (back_is c) ∙ ap back e ∙ back_is d
+-- the places in a line are the same wherever in memory the bytes lie
+placeless-places : (l : Bytes) (c : Option Command) → places l (option_map placeless c) ≡ places l c
+placeless-places l None = refl
+placeless-places l (Some command.Begin) = refl
+placeless-places l (Some (command.Get h k)) = refl
+placeless-places l (Some (command.Put h k v)) = refl
+placeless-places l (Some (command.Delete h k)) = refl
+placeless-places l (Some (command.First h)) = refl
+placeless-places l (Some (command.Above h k)) = refl
+placeless-places l (Some (command.Commit h)) = refl
+placeless-places l (Some (command.End h)) = refl
+placeless-places l (Some command.Freeze) = refl
+
+-- ---- commands of one call
+-- they are the same command, with the same bytes
+pub command-bytes : (c d : Option Command) → call_of c ≡ call_of d → option_map placeless c ≡ option_map placeless d
+command-bytes c d e = sym (back_is c) ∙ ap back e ∙ back_is d
+
+-- and where they lie within one line, these bytes stand at the same places
+pub command-same : (l : Bytes) (c d : Option Command) (ps qs : List ℕ) → Within l c ps → Within l d qs → call_of c ≡ call_of d
+    → (option_map placeless c ≡ option_map placeless d) × (ps ≡ qs)
+command-same l c d ps qs v w e =
+    let s = command-bytes c d e in
+    (s, places-are l c ps v ∙ sym (placeless-places l c) ∙ ap (places l) s ∙ placeless-places l d ∙ sym (places-are l d qs w))

@@ -6,7 +6,7 @@ ghost use Rattle.std.specs.Iterator.{YieldsFirstRef, item_count};
 ghost use Rattle.paper.specs.Replay.{pieces, is_word, line_call};
 ghost use Rattle.words.specs.Fields.{digits_from, handle_in};
 ghost use Rattle.words.specs.Lines.{lines_in};
-ghost use Rattle.words.specs.Commands.{call_of, lone_call, handled_call};
+ghost use Rattle.words.specs.Commands.{call_of, Within, places, lone_call, handled_call};
 
 // ---- lines
 
@@ -158,9 +158,9 @@ fn with_value<'a>(letter: u8, handle: u64, key: &'a [u8], value: &'a [u8]) -> Op
     })
 }
 
-// The command of a line without its LF, where there is one.
+// The command of a line without its LF, where there is one. Its key and value lie within the line, each at its place.
 pub fn understood(line: &[u8]) -> Option<Command<'_>>
-    ensures { call_of result ≡ line_call (pieces 32 line.now) }
+    ensures { (call_of result ≡ line_call (pieces 32 line.now)) × Within line.now result (places line.now result) }
 {
     let mut fields = line.split(|b| *b == b' ');
     let letter = fields.next()?;

@@ -1,6 +1,5 @@
-use Rattle.std.proofs.Common.{ap, ◌∙◌, arith}
-use Rattle.overlay.specs.Overlay.{pairs_in}
-use Rattle.txn.proofs.Laying.{own-inside, own-whole, own-pairs}
+use Rattle.std.proofs.Common.{◌∙◌, arith}
+use Rattle.txn.proofs.Laying.{own-inside, own-whole, own-part}
 use Rattle.txn.proofs.own.Goals as goal
 
 pub overflow_add-used_at : goal.overflow_add-used_at
@@ -13,4 +12,4 @@ pub new-requires : goal.new-requires
 new-requires c = own-whole c.args.place.now c.requires.0 c.requires.1 c.used_at.result c.used_at.ensures
 
 pub returns : goal.returns
-returns c = ap pairs_in c.new.ensures ∙ own-pairs c.args.place.now c.requires.0 c.requires.1 c.used_at.result c.used_at.ensures
+returns c = c.new.ensures ∙ own-part c.args.place.now c.requires.0 c.requires.1 c.used_at.result c.used_at.ensures

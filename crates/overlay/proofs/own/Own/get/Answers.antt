@@ -1,11 +1,12 @@
-use Rattle.std.proofs.Common.{◌∙◌}
-use Rattle.overlay.proofs.Putting.{ends, value-hit, value-miss, found-some, found-none}
+use Rattle.std.proofs.Common.{refl, ◌∙◌}
+use Rattle.overlay.proofs.Putting.{ends, found-some, found-none}
+use Rattle.overlay.proofs.Answering.{answer-hit, answer-miss}
 use Rattle.overlay.proofs.own.Own.get.Goals as goal
 
 pub returns-in_err-found : goal.returns-in_err-found
 returns-in_err-found c =
     let m = found-none c.find.result c.in_err-found.ensures.value in
-    rw c.from_residual.ensures (value-miss c.args.self.bytes.now c.args.self.octets c.args.self.whole c.args.key.now m.0 (m.1 ∙ c.find.ensures))
+    rw c.from_residual.ensures (answer-miss c.args.self.bytes.now c.args.self.octets c.args.self.whole c.args.key.now m.0 (m.1 ∙ c.find.ensures))
 
 pub slice_bounds-result-count : goal.slice_bounds-result-count
 slice_bounds-result-count c =
@@ -25,4 +26,4 @@ slice_bounds-result-end c =
 pub returns : goal.returns
 returns c =
     let f = found-some c.find.result c.in_ok-found.found c.in_ok-found.ensures.value ∙ c.find.ensures in
-    value-hit c.args.self.bytes.now c.args.self.octets c.args.self.whole c.args.key.now c.in_ok-found.found f
+    answer-hit c.args.self.bytes.now c.args.self.octets c.args.self.whole c.args.key.now c.in_ok-found.found f _ refl
