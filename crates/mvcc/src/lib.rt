@@ -85,14 +85,17 @@ impl Left {
     fn after(self, clock: u64, entry: Entry<'_>) -> Option<Left>
         ensures { result ≡ left_after self clock (commit_of entry.entry) }
     {
+        let entries = self.entries.checked_sub(1)?;
+        let hashes = self.hashes.checked_sub(entry.hashes.len() / 4)?;
         let follows = self.last.is_none_or(|last| last < entry.number);
+        // The hashes are walked last, and only where there is room for them.
         if !follows || clock < entry.number || !sets::rising(entry.hashes) {
             return None;
         }
         Some(Left {
             last: Some(entry.number),
-            entries: self.entries.checked_sub(1)?,
-            hashes: self.hashes.checked_sub(entry.hashes.len() / 4)?,
+            entries,
+            hashes,
         })
     }
 }
