@@ -1,13 +1,13 @@
 -- How a commit enters the history: what stays of it, the room for the new entry, and the bytes that are written; and that in the other mode nothing changes.
 -- Assumes nothing.
-use Prim.Native.Nat.{ℕ, ◌+◌, ◌*◌, ◌-◌, ◌/◌, ◌%◌, ◌<◌, ◌≤◌}
+use Prim.Native.Nat.{ℕ, ◌+◌, ◌*◌, ◌-◌, ◌/◌, ◌<◌, ◌≤◌}
 use native.Mathlib.Omega.{arith}
 use mathlib.Core.Path.{◌≡◌, refl, sym, ap, ap₂, ◌∙◌, subst}
 use mathlib.Core.Bool.{Bool, true, false, cond}
 use mathlib.Core.List.{List, [], ◌∷◌, ◌++◌}
 use mathlib.Core.Option.{none, some}
-use lib.ListN.{length, take, drop, length-drop, take-append-drop}
-use lib.Seq.{length-take-le, take_all}
+use lib.ListN.{length, take, drop, length-drop}
+use lib.Seq.{take_all}
 use lib.Dec.{leb}
 use borrow.Author.Tests.{le-leb, leb-true}
 use Rattle.paper.specs.Lists.{keep, is_some}
@@ -24,8 +24,8 @@ use Rattle.paper.proofs.Bools.{and_intro, and_left, and_right}
 use Rattle.paper.proofs.Alls.{rule}
 use Rattle.paper.proofs.SoundLaws.{rules}
 use Rattle.raw.specs.Bytes.{part, over}
-use Rattle.raw.proofs.Parts.{length_part, part-part, part-take, drop-part}
-use Rattle.raw.proofs.Over.{length_over, over-lent, over-within, over-left}
+use Rattle.raw.proofs.Parts.{length_part, part-part, drop-part}
+use Rattle.raw.proofs.Over.{length_over, over-lent, over-within}
 use Rattle.raw.proofs.Octets.{octets-part, octets-drop}
 use Rattle.layout.specs.Codec.{many}
 use Rattle.layout.specs.Layout.{store_in, write_store, listed, commit_stream}
@@ -48,7 +48,7 @@ use Rattle.mvcc.proofs.Entering.{after-long}
 use Rattle.committing.specs.Held.{Placed, held_at}
 use Rattle.committing.specs.Regions.{list_at, set_starts}
 use Rattle.committing.proofs.Held.{Lying, held_shape, held_lies, held_writes, held-here}
-use Rattle.committing.proofs.Histories.{history_room, history-used, history-lies, history-is}
+use Rattle.committing.proofs.Histories.{history_room, history-lies, history-is}
 
 -- ---- commits that fit their fields
 all-kept : (q : Commit → Bool) (cs : List Commit) → All OkCommit cs → All OkCommit (keep q cs)
@@ -204,47 +204,54 @@ module _ (b : Bytes) (o : octets b ≡ true) (z : Shape) (place : ℕ) (p : Plac
           ∙ ap₂ (λ (at : ℕ) (cs : List Commit). over b at ((listed commit_stream).put cs)) S.history made-is
           ∙ sym (inside.change-history b s o (sound-read b p.sound) (history_after s t) (after-ok k (omega (arith, n, u))))
 
-      -- the bytes as the code lends them: the history E and the write set V, the state up to the hashes of the write set and from there on, and the room for the history in the former
-      module _ (E V F K : Bytes) (e : E ≡ list_at b z.history) (v : V ≡ list_at b writes) (f : F ≡ take (writes + 8) b) (k₂ : K ≡ drop (writes + 8) b) where
+      -- the bytes as the code lends them: the history E, the write set V, and the state from the history's entries on, in which the hashes stand at `from`
+      module _ (E V : Bytes) (e : E ≡ list_at b z.history) (v : V ≡ list_at b writes) where
         abbrev pub lent : Bytes
-        lent = part F (z.history + 8) (length F - (z.history + 8))
+        lent = part b (z.history + 8) (length b - (z.history + 8))
+
+        abbrev pub from : ℕ
+        from = writes + 8 - (z.history + 8)
 
         abbrev pub hashes : Bytes
-        hashes = take (length V) K
+        hashes = part lent from (4 * (length V / 4))
 
         lies : Lying b z place
         lies = held_lies p
 
         -- how long each is
-        longs : (length E ≡ used_at b z.history) × (length V ≡ used_at b writes) × (length F ≡ writes + 8)
-        longs =
-            let L = lies in (
-              ap length e ∙ length_part b (z.history + 8) (used_at b z.history) (history-lies b o p.sound z p.shape),
-              ap length v ∙ length_part b (writes + 8) (used_at b writes) (writes-lie writes d),
-              ap length f ∙ length-take-le (writes + 8) b (let w = (writes-lie writes d) in omega arith),
-            )
+        longs : (length E ≡ used_at b z.history) × (length V ≡ used_at b writes)
+        longs = (
+          ap length e ∙ length_part b (z.history + 8) (used_at b z.history) (history-lies b o p.sound z p.shape),
+          ap length v ∙ length_part b (writes + 8) (used_at b writes) (writes-lie writes d),
+        )
 
         -- the history's room ends before the write set
         apart : z.history + 8 + (16 * z.entries + 4 * z.hashes) ≤ writes
         apart = let L = lies in omega (arith, d, L.history, L.active, L.area, L.places)
 
-        pub lent-long : length lent ≡ writes + 8 - (z.history + 8)
-        lent-long = let a = apart in let n = longs in length_part F (z.history + 8) (length F - (z.history + 8)) (omega arith) ∙ omega arith
+        -- the hashes are whole
+        hashes-long : 4 * (length V / 4) ≡ used_at b writes
+        hashes-long = let n = longs in omega (arith, W.used)
+
+        pub lent-long : length lent ≡ length b - (z.history + 8)
+        lent-long = let a = apart in let w = writes-lie writes d in length_part b (z.history + 8) (length b - (z.history + 8)) (omega arith)
 
         pub lent-hashes : hashes ≡ list_at b writes
-        lent-hashes = let n = longs in ap (take (length V)) k₂ ∙ ap (λ (i : ℕ). take i (drop (writes + 8) b)) n.1
+        lent-hashes =
+            let a = apart in
+            let w = writes-lie writes d in
+            let h = hashes-long in
+            let i : z.history + 8 + from ≡ writes + 8 = omega arith in
+            part-part b (z.history + 8) (length b - (z.history + 8)) from (4 * (length V / 4)) (omega arith) ∙ ap₂ (part b) i h
 
         pub lent-stays : part lent cut (length E - cut) ≡ stays
         lent-stays =
-            let a = apart in
             let n = longs in
-            let u = history-used b o p.sound z p.shape in
+            let l = history-lies b o p.sound z p.shape in
             let c = C.to in
-            let q : cut ≤ used_at b z.history = omega (arith, length_part b (z.history + 8) (used_at b z.history) (history-lies b o p.sound z p.shape)) in
+            let q : cut ≤ used_at b z.history = omega (arith, length_part b (z.history + 8) (used_at b z.history) l) in
             let i : length E - cut ≡ used_at b z.history - cut = omega arith in
-            part-part F (z.history + 8) (length F - (z.history + 8)) cut (length E - cut) (omega arith)
-            ∙ ap (λ (t : Bytes). part t (z.history + 8 + cut) (length E - cut)) f
-            ∙ part-take b (writes + 8) (z.history + 8 + cut) (length E - cut) (omega arith)
+            part-part b (z.history + 8) (length b - (z.history + 8)) cut (length E - cut) (omega arith)
             ∙ ap (part b (z.history + 8 + cut)) i
             ∙ sym (drop-part b (z.history + 8) (used_at b z.history) cut)
 
@@ -255,21 +262,22 @@ module _ (b : Bytes) (o : octets b ≡ true) (z : Shape) (place : ℕ) (p : Plac
             after-long stays (octets-drop cut (list_at b z.history) (octets-part b (z.history + 8) (used_at b z.history) o)) stays-reads number (list_at b writes)
             (octets-part b (writes + 8) (used_at b writes) o) (omega (arith, n, W.used))
 
-        pub enter-ready : (cut ≤ length E) × (length E ≤ length lent) × (length E - cut + 16 + length hashes ≤ length lent) × (length hashes % 4 ≡ 0) × (is_some (history_read (part lent cut (length E - cut))) ≡ true)
+        pub enter-ready : (cut ≤ length E) × (length E ≤ length lent) × (length E - cut + 16 + 4 * (length V / 4) ≤ from) × (from + 4 * (length V / 4) ≤ length lent) × (is_some (history_read (part lent cut (length E - cut))) ≡ true)
         enter-ready =
             let a = apart in
             let n = longs in
-            let u = history-used b o p.sound z p.shape in
+            let k = hashes-long in
             let l = lent-long in
             let c = C.to in
             let q = length_part b (z.history + 8) (used_at b z.history) (history-lies b o p.sound z p.shape) in
             let w = length_part b (writes + 8) (used_at b writes) (writes-lie writes d) in
-            let h : length hashes ≡ length (list_at b writes) = ap length lent-hashes in
+            let i = writes-lie writes d in
+            let j = history-lies b o p.sound z p.shape in
             let g : length stays ≡ length (list_at b z.history) - cut = length-drop cut (list_at b z.history) in (
               omega arith,
               omega arith,
               omega (arith, after-size, made-long),
-              omega (arith, W.used),
+              omega arith,
               ap (λ (t : Bytes). is_some (history_read t)) lent-stays ∙ stays-reads,
             )
 
@@ -284,24 +292,21 @@ module _ (b : Bytes) (o : octets b ≡ true) (z : Shape) (place : ℕ) (p : Plac
           room-is : room ≡ over lent 0 (history_bytes made)
           room-is = r ∙ ap (λ (cs : List Commit). over lent 0 (history_bytes cs)) made-there
 
-          pub written : take (z.history + 8) F ++ (room ++ drop (length F - (z.history + 8)) (drop (z.history + 8) F)) ++ K ≡ over b (z.history + 8) (history_bytes made)
+          pub written : take (z.history + 8) b ++ (room ++ drop (length b - (z.history + 8)) (drop (z.history + 8) b)) ≡ over b (z.history + 8) (history_bytes made)
           written =
               let a = apart in
-              let n = longs in
+              let w = writes-lie writes d in
               let l = lent-long in
               let m₂ = made-long in
-              let rl : length room ≡ length F - (z.history + 8) = ap length room-is ∙ length_over lent 0 (history_bytes made) (omega arith) ∙ omega arith in
+              let rl : length room ≡ length b - (z.history + 8) = ap length room-is ∙ length_over lent 0 (history_bytes made) (omega arith) ∙ lent-long in
               let i : z.history + 8 + 0 ≡ z.history + 8 = omega arith in
               let x : Bytes = history_bytes made in
-              ap (λ (t : Bytes). t ++ K)
-              (over-lent F room (z.history + 8) (length F - (z.history + 8)) rl
-              ∙ ap (over F (z.history + 8)) room-is
-              ∙ over-within F (z.history + 8) (length F - (z.history + 8)) 0 x (omega arith) (omega arith)
-              ∙ ap (λ (j : ℕ). over F j x) i)
-              ∙ sym (over-left F K (z.history + 8) x (omega arith))
-              ∙ ap (λ (t : Bytes). over t (z.history + 8) x) (ap₂ (λ (t u : Bytes). t ++ u) f k₂ ∙ take-append-drop (writes + 8) b)
+              over-lent b room (z.history + 8) (length b - (z.history + 8)) rl
+              ∙ ap (over b (z.history + 8)) room-is
+              ∙ over-within b (z.history + 8) (length b - (z.history + 8)) 0 x (omega arith) (omega arith)
+              ∙ ap (λ (j : ℕ). over b j x) i
 
-          pub written-long : length (take (z.history + 8) F ++ (room ++ drop (length F - (z.history + 8)) (drop (z.history + 8) F)) ++ K) ≡ length b
+          pub written-long : length (take (z.history + 8) b ++ (room ++ drop (length b - (z.history + 8)) (drop (z.history + 8) b))) ≡ length b
           written-long =
               let a = apart in
               let w = writes-lie writes d in

@@ -105,12 +105,12 @@ impl Transaction {
     {
         if self.shape.serializable {
             let writes = self.sets().writes;
-            let size = list_at(state, writes).len();
+            let count = list_at(state, writes).len() / 4;
             let cut = self.cut(state, number);
             let end = list_at(state, self.shape.history).len();
-            let (front, back) = state.split_at_mut(writes + 8);
             let start = self.shape.history + 8;
-            let next = mvcc::enter(&mut front[start..], cut, end, number, &back[..size]);
+            let from = writes + 8 - start;
+            let next = mvcc::enter(&mut state[start..], cut, end, number, from, count);
             raw::put_number::<8>(state, self.shape.history, next as u64);
         }
     }

@@ -5,7 +5,7 @@
 ghost use Rattle.std.specs.Prelude.{◌≡◌, true, MatchOption, [], ◌∷◌, ◌++◌, length, drop};
 ghost use Rattle.std.specs.Iterator.{YieldsFirstBy, item_count};
 ghost use Rattle.std.proofs.Math.Option.{none, some};
-ghost use Prim.Native.Nat.{◌+◌, ◌-◌, ◌%◌, ◌≤◌, compare};
+ghost use Prim.Native.Nat.{◌+◌, ◌*◌, ◌-◌, ◌≤◌, compare};
 ghost use Rattle.paper.specs.Lists.{is_some, rises};
 ghost use Rattle.paper.specs.History.{Commit, make_commit, opponent};
 ghost use Rattle.paper.specs.Store.{hash_count};
@@ -85,14 +85,17 @@ impl Left {
     fn after(self, clock: u64, entry: Entry<'_>) -> Option<Left>
         ensures { result ≡ left_after self clock (commit_of entry.entry) }
     {
+        let entries = self.entries.checked_sub(1)?;
+        let hashes = self.hashes.checked_sub(entry.hashes.len() / 4)?;
         let follows = self.last.is_none_or(|last| last < entry.number);
+        // The hashes are walked last, and only where there is room for them.
         if !follows || clock < entry.number || !sets::rising(entry.hashes) {
             return None;
         }
         Some(Left {
             last: Some(entry.number),
-            entries: self.entries.checked_sub(1)?,
-            hashes: self.hashes.checked_sub(entry.hashes.len() / 4)?,
+            entries,
+            hashes,
         })
     }
 }
@@ -187,16 +190,24 @@ pub fn fits(history: &[u8], count: usize, entries: usize, hashes: usize) -> bool
     kept.entries < entries && kept.hashes <= hashes && count <= hashes - kept.hashes
 }
 
-// Moves the entries from `cut` to `end` to the front of a room and writes a new one behind them; tells how many bytes the history then has.
-// What stays moves within the one room, so `cut` and `end` are places in it.
-pub fn enter(room: &mut [u8], cut: usize, end: usize, number: u64, hashes: &[u8]) -> usize
-    requires { (cut ≤ end) × (end ≤ length room.old) × ((end - cut) + 16 + length hashes.now ≤ length room.old) × (length hashes.now % 4 ≡ 0) × (is_some (history_read (part room.old cut (end - cut))) ≡ true) }
-    ensures { (result ≡ length (history_bytes (history_in (part room.old cut (end - cut)) ++ (make_commit number (set_hashes hashes.now) ∷ [])))) × (room.new ≡ over room.old 0 (history_bytes (history_in (part room.old cut (end - cut)) ++ (make_commit number (set_hashes hashes.now) ∷ [])))) }
+// Moves the entries from `cut` to `end` to the front of a room and writes a new one behind them, with the `count` hashes from `from`; tells how many bytes
+// the history then has. What stays and the hashes are moved within the one room, so they are told by their places in it.
+pub fn enter(
+    room: &mut [u8],
+    cut: usize,
+    end: usize,
+    number: u64,
+    from: usize,
+    count: usize,
+) -> usize
+    requires { (cut ≤ end) × (end ≤ length room.old) × ((end - cut) + 16 + 4 * count ≤ from) × (from + 4 * count ≤ length room.old) × (is_some (history_read (part room.old cut (end - cut))) ≡ true) }
+    ensures { (result ≡ length (history_bytes (history_in (part room.old cut (end - cut)) ++ (make_commit number (set_hashes (part room.old from (4 * count))) ∷ [])))) × (room.new ≡ over room.old 0 (history_bytes (history_in (part room.old cut (end - cut)) ++ (make_commit number (set_hashes (part room.old from (4 * count))) ∷ [])))) }
 {
     let kept = end - cut;
+    let size = 4 * count;
     raw::shift(room, cut, 0, kept);
     raw::put_number::<8>(room, kept, number);
-    raw::put_number::<8>(room, kept + 8, hashes.len() as u64);
-    raw::copy_at(room, kept + 16, hashes);
-    kept + 16 + hashes.len()
+    raw::put_number::<8>(room, kept + 8, size as u64);
+    raw::shift(room, from, kept + 16, size);
+    kept + 16 + size
 }

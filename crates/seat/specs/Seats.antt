@@ -29,7 +29,7 @@ abbrev pub SeatTold : Store → ℕ → std.Option Seat → Type 0
 SeatTold s h (Some seat) = Seated s h seat.place seat.read seat.open
 SeatTold s h None = find_txn h s.places ≡ none
 
--- the open transaction, or why no call that needs one enters it
+-- the open transaction, which is told as open, or why no call that needs one enters it
 abbrev pub OpenTold : Store → ℕ → Result Seat Refusal → Type 0
-OpenTold s h (Ok seat) = Seated s h seat.place seat.read true
+OpenTold s h (Ok seat) = Seated s h seat.place seat.read true × (seat.open ≡ true)
 OpenTold s h (Err w) = in_open_txn s h ≡ stop (refusal_of w)

@@ -1,25 +1,21 @@
--- Places one after the other, as `chunks_exact` cuts them off a slice: the same places as the slice's own words count, from its front and from its back.
+-- Places one after the other, as `chunks_exact` cuts them off a slice: the same places as the slice's own words count.
 -- Assumes nothing.
 use Prim.Native.Nat.{ℕ, zero, suc, ◌+◌, ◌*◌, ◌/◌, ◌%◌, ◌<◌, ◌≤◌}
 use native.Mathlib.Omega.{arith}
 use native.Mathlib.Nat.{suc-mul, zero-mul}
 use mathlib.Core.Path.{◌≡◌, refl, sym, ap, ap₂, ◌∙◌, subst}
 use mathlib.Core.Bool.{Bool, true, false, not, cond}
-use mathlib.Core.List.{List, [], ◌∷◌, ◌++◌, map, map-append, reverse, reverse-append, reverse-reverse, append_assoc}
+use mathlib.Core.List.{List, [], ◌∷◌, ◌++◌, map}
 use mathlib.Core.Option.{Option, none, some}
-use lib.ListN.{length, take, drop, length-map, length-reverse, length-drop, length-append, take-append-drop}
-use lib.Seq.{take_at, drop_at, drop-drop, length-take-le}
+use lib.ListN.{length, drop, length-append}
+use lib.Seq.{take_at, drop_at, drop-drop}
 use lib.Dec.{ltb, eqb}
 use borrow.Author.Tests.{lt-ltb, le-ltb, ltb-true, ltb-false, eq-eqb, ne_eqb}
-use denote.Ref.{Bor}
 use Rattle.std.specs.Prelude.{Some, None}
 use Rattle.std.specs.List.{position_or_len}
 use Rattle.std.specs.Simd.{first_chunks}
 use Rattle.std.specs.Slice.Iter.{chunks_exact_rest, chunks_exact_size, chunks_exact_steps}
-use Rattle.std.specs.Slice.Exact.{chunks_exact_steps_back}
-use Rattle.std.specs.Iterator.Adapters.{rev_source, rev_steps}
 use Rattle.std.specs.declared.slice.ChunksExact.{ChunksExact}
-use Rattle.std.specs.declared.iter.Rev.{Rev}
 use Rattle.std.proofs.lemmas.Nat.{div-add-mod', div-mul-add}
 use Rattle.std.proofs.lemmas.Iterator.{YieldsList}
 use Rattle.std.proofs.lemmas.Iterator.Splits.{YieldsList-from_shown_while}
@@ -30,7 +26,7 @@ use Rattle.paper.specs.Image.{number_from}
 use Rattle.raw.specs.Bytes.{part}
 use Rattle.raw.proofs.Parts.{take_part, part-part}
 use Rattle.layout.specs.Codec.{map_option}
-use Rattle.table.specs.Places.{tag_at, read_at, tags_in, handles_in, reads_in, first_with, placed, found_in}
+use Rattle.table.specs.Places.{tag_at, tags_in, handles_in, reads_in, first_with, placed, found_in}
 
 -- the places that fill b, w bytes each
 abbrev pub seats : ℕ → Bytes → List Bytes
@@ -56,34 +52,6 @@ module _ (w : ℕ) (z : 0 < w) where
       ap (λ (n : ℕ). first_chunks w n (x ++ b)) (many (x ++ b) (suc m) r k (omega arith))
       ∙ ap₂ (λ (u : Bytes) (v : Bytes). u ∷ first_chunks w m v) (take_at x b w e) (drop_at x b w e)
 
-  -- from the back
-  first-back : (k : ℕ) (a x after : Bytes) → length a ≡ k * w → length x ≡ w → first_chunks w (suc k) ((a ++ x) ++ after) ≡ first_chunks w k a ++ (x ∷ [])
-  first-back zero [] x after e f = ap (λ (u : Bytes). u ∷ []) (take_at x after w f)
-  first-back zero (y ∷ a) x after e f = absurd (omega (arith, zero-mul w, e))
-  first-back (suc k) a x after e f =
-      let r : Bytes = (drop w a ++ x) ++ after in
-      let l : length (take w a) ≡ w = length-take-le w a (omega (arith, suc-mul k w)) in
-      let g : (a ++ x) ++ after ≡ take w a ++ r = ap (λ (u : Bytes). (u ++ x) ++ after) (sym (take-append-drop w a)) ∙ simp append_assoc in
-      ap (first_chunks w (suc (suc k))) g
-      ∙ ap₂ (λ (u v : Bytes). u ∷ first_chunks w (suc k) v) (take_at (take w a) r w l) (drop_at (take w a) r w l)
-      ∙ ap (λ (qs : List Bytes). take w a ∷ qs) (first-back k (drop w a) x after (length-drop w a ∙ omega (arith, suc-mul k w)) f)
-
-  pub seats-back : (a x after b : Bytes) → b ≡ (a ++ x) ++ after → length x ≡ w → length after ≡ length b % w → reverse (seats w b) ≡ x ∷ reverse (seats w a)
-  seats-back a x after b e f g = go (length b / w) (div-add-mod' (length b) w)
-    where
-      long : length b ≡ length a + w + length after
-      long = ap length e ∙ length-append (a ++ x) after ∙ ap (λ (n : ℕ). n + length after) (length-append a x) ∙ omega (arith, f)
-
-      go : (n : ℕ) → n * w + length b % w ≡ length b → reverse (first_chunks w n b) ≡ x ∷ reverse (seats w a)
-      go zero d = absurd (omega (arith, zero-mul w, long))
-      go (suc k) d =
-          let l : length a ≡ k * w = omega (arith, suc-mul k w, long) in
-          let m : length a / w ≡ k = many a k 0 (omega arith) z in
-          ap (λ (u : Bytes). reverse (first_chunks w (suc k) u)) e
-          ∙ ap reverse (first-back k a x after l f)
-          ∙ reverse-append (first_chunks w k a) (x ∷ [])
-          ∙ ap (λ (n : ℕ). x ∷ reverse (first_chunks w n a)) (sym m)
-
 -- ---- what `chunks_exact` gives
 module _ (w : ℕ) (b : Bytes) (z : 0 < w) where
   pub seats-yielded : {s : ChunksExact ℕ} → chunks_exact_size s ≡ w → chunks_exact_rest s ≡ b → YieldsList chunks_exact_steps (λ x. x.now) s (seats w b)
@@ -97,26 +65,9 @@ module _ (w : ℕ) (b : Bytes) (z : 0 < w) where
       ))
       s (omega (arith, e)))
 
-  pub seats-reversed : {s : Rev (ChunksExact ℕ)} → chunks_exact_size (rev_source s) ≡ w → chunks_exact_rest (rev_source s) ≡ b
-      → YieldsList (rev_steps chunks_exact_steps_back) (λ x. x.now) s (reverse (seats w b))
-  seats-reversed {s} e f =
-      subst (YieldsList (rev_steps chunks_exact_steps_back) (λ x. x.now) s) (ap₂ (λ (n : ℕ) (u : Bytes). reverse (seats n u)) e f)
-      (YieldsList-from_shown_while (rev_steps chunks_exact_steps_back) (λ x. x.now) (λ s. reverse (seats (chunks_exact_size (rev_source s)) (chunks_exact_rest (rev_source s)))) (λ s. 0 < chunks_exact_size (rev_source s))
-      (λ s t p h. ap (λ (qs : List Bytes). length (reverse qs)) (seats-none (chunks_exact_size (rev_source s)) p (chunks_exact_rest (rev_source s)) h.2.0))
-      (λ s x t p h. (
-        omega (arith, h.0),
-        seats-back (chunks_exact_size (rev_source s)) p (chunks_exact_rest (rev_source t)) x.now h.2.0 (chunks_exact_rest (rev_source s)) h.2.1 h.2.2 h.2.3
-            ∙ ap (λ (n : ℕ). x.now ∷ reverse (seats n (chunks_exact_rest (rev_source t)))) (sym h.0),
-      ))
-      s (omega (arith, e)))
-
 -- ---- their first bytes
 abbrev pub tag_of : Bytes → ℕ
 tag_of q = tag_at q 0
-
-abbrev pub reads_of : List Bytes → List ℕ
-reads_of [] = []
-reads_of (q ∷ qs) = cond (eqb (tag_of q) 0) (reads_of qs) (read_at q 0 ∷ reads_of qs)
 
 same-reads : (t u r s : ℕ) (xs ys : List ℕ) → t ≡ u → r ≡ s → xs ≡ ys → cond (eqb t 0) xs (r ∷ xs) ≡ cond (eqb u 0) ys (s ∷ ys)
 same-reads t u r s xs ys e f g = cc
@@ -128,13 +79,6 @@ module _ (b : Bytes) (w : ℕ) where
   tags-seats l (suc n) at =
       ap₂ (λ (t : ℕ) (ts : List ℕ). t ∷ ts) (ap (number_from 0) (sym (take_part b at w 8 l)))
       (tags-seats l n (at + w) ∙ ap (λ (u : Bytes). map tag_of (first_chunks w n u)) (sym (drop-drop w at b)))
-
-  pub reads-seats : 16 ≤ w → (n at : ℕ) → reads_in b at w n ≡ reads_of (first_chunks w n (drop at b))
-  unfolding reads_in
-  reads-seats l zero at = refl
-  reads-seats l (suc n) at =
-      same-reads _ _ _ _ _ _ (ap (number_from 0) (sym (take_part b at w 8 (omega arith)))) (ap (number_from 0) (sym (part-part b at w 8 8 l)))
-      (reads-seats l n (at + w) ∙ ap (λ (u : Bytes). reads_of (first_chunks w n u)) (sym (drop-drop w at b)))
 
 -- ---- a slice of a state has the state's own places
 module _ (b : Bytes) (p m w : ℕ) where
@@ -189,40 +133,6 @@ module _ (tag : ℕ) where
       → cond (ltb (position_or_len with_tag (seats w b)) (length (seats w b))) (Some (position_or_len with_tag (seats w b))) None ≡ found_in b 0 w (length b / w) tag
   unfolding found_in
   found-seat b w l = sym (ap (λ (ts : List ℕ). placed (first_with tag ts)) (tags-seats b w l (length b / w) 0) ∙ first-seat (seats w b))
-
--- ---- the places that came from the back so far
-abbrev pub passed : List (Bor Bytes) → List ℕ
-passed ys = reads_of (reverse (map (λ x. x.now) ys))
-
--- one more, which is a reader's
-module _ (ys : List (Bor Bytes)) (x : Bor Bytes) where
-  gone : reverse (map {B = Bytes} (λ x. x.now) (ys ++ (x ∷ []))) ≡ x.now ∷ reverse (map (λ x. x.now) ys)
-  gone = ap reverse (map-append (λ (x : Bor Bytes). x.now) ys (x ∷ [])) ∙ reverse-append (map {B = Bytes} (λ x. x.now) ys) (x.now ∷ [])
-
-  pub passed-taken : (tag_of x.now ≡ 0 → ⊥) → passed (ys ++ (x ∷ [])) ≡ read_at x.now 0 ∷ passed ys
-  passed-taken e = ap reads_of gone ∙ simp (ne_eqb (tag_of x.now) 0 e)
-
-reads_of-long : (qs : List Bytes) → length (reads_of qs) ≤ length qs
-reads_of-long [] = omega arith
-reads_of-long (q ∷ qs) = go (eqb (tag_of q) 0) (reads_of-long qs)
-  where
-    go : (p : Bool) → length (reads_of qs) ≤ length qs → length (cond p (reads_of qs) (read_at q 0 ∷ reads_of qs)) ≤ suc (length qs)
-    go true h = omega arith
-    go false h = omega arith
-
-pub passed-long : (ys : List (Bor Bytes)) → length (passed ys) ≤ length ys
-passed-long ys = omega (arith, reads_of-long (reverse (map (λ x. x.now) ys)), length-reverse (map {B = Bytes} (λ x. x.now) ys), length-map ys (λ (x : Bor Bytes). x.now))
-
--- all of them
-pub passed-all : (w : ℕ) (b : Bytes) → 16 ≤ w → (ys : List (Bor Bytes)) → map (λ x. x.now) ys ≡ reverse (seats w b) → passed ys ≡ reads_in b 0 w (length b / w)
-passed-all w b l ys e = ap (λ (qs : List Bytes). reads_of (reverse qs)) e ∙ ap reads_of (reverse-reverse (seats w b)) ∙ sym (reads-seats b w l (length b / w) 0)
-
-pub seats-many : (w : ℕ) (b : Bytes) → length (reverse (seats w b)) ≡ length b / w
-seats-many w b = length-reverse (seats w b) ∙ go (length b / w) b
-  where
-    go : (n : ℕ) (b : Bytes) → length (first_chunks w n b) ≡ n
-    go zero b = refl
-    go (suc n) b = ap suc (go n (drop w b))
 
 -- ---- the handles
 -- those of the first place and of the others

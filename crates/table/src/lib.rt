@@ -179,7 +179,11 @@ pub fn rows_anew(places: &[u8], stride: usize, buf: &mut [u8])
     ensures { buf.new ≡ lay_rows (rows_of (reads_in places.now 0 stride (length places.now / stride))) buf.old }
 {
     raw::put_number::<8>(buf, 0, 0);
-    for place in places.chunks_exact(stride).rev() {
+    let count = places.len() / stride;
+    // Counted down by index: `chunks_exact` divides at each step from the back.
+    for i in (0..count).rev() {
+        let at = i * stride;
+        let place = &places[at..at + stride];
         if raw::number::<8>(place, 0) != 0 {
             add(buf, raw::number::<8>(place, 8));
         }

@@ -1,73 +1,95 @@
 -- Each place that is not free adds its reader.
 use native.Mathlib.Omega.{arith}
-use Prim.Native.Nat.{ℕ, suc, ◌+◌, ◌*◌, ◌/◌, ◌^◌, ◌<◌, ◌≤◌}
-use mathlib.Core.Path.{◌≡◌, refl, sym, ap, ◌∙◌, subst}
+use Prim.Native.Nat.{ℕ, suc, ◌+◌, ◌*◌, ◌-◌, ◌/◌, ◌^◌, ◌<◌, ◌≤◌}
+use mathlib.Core.Path.{◌≡◌, refl, sym, ap, ◌∙◌}
 use mathlib.Core.List.{List, [], ◌∷◌}
 use lib.ListN.{length}
-use Rattle.std.proofs.lemmas.Iterator.Consumers.{YieldsList-turn, YieldsList-end}
+use Rattle.std.proofs.lemmas.Nat.{div-add-mod'}
 use Rattle.paper.specs.Keys.{Bytes}
 use Rattle.paper.specs.Readers.{Row}
 use Rattle.paper.specs.Store.{rows_of}
+use Rattle.raw.proofs.Octets.{octets-of}
 use Rattle.layout.proofs.Streams.{All}
 use Rattle.table.specs.Rows.{lay_rows}
 use Rattle.table.specs.Places.{reads_in}
-use Rattle.table.proofs.Seats.{passed, passed-long, passed-taken, passed-all, seats-many, seats-reversed}
+use Rattle.table.proofs.Tags.{step, tag-cut, read-cut, reads_from, reads_none, reads_all, reads-few, reads-fields, reads-free, reads-taken}
 use Rattle.table.proofs.RowsAnew.{lay-zero, lay-again, none_rows, made-rowed, made-fine, made_more}
 use Rattle.table.proofs.rows_anew.Goals as goal
 
-pub loop-place-init : goal.loop-place-init
-loop-place-init c =
+pub loop-i-init : goal.loop-i-init
+loop-i-init c =
     let b₀ : Bytes = c.put_number.new.s in
+    let count : ℕ = length c.args.places.now / c.args.stride in
     let e : b₀ ≡ lay_rows [] c.args.buf.now = c.put_number.ensures ∙ lay-zero c.args.buf.now in
     record {
-      wide = cc;
-      fields = tt;
+      within = omega arith;
       long = refl;
-      laid = sym (none_rows b₀ ∙ ap (lay_rows []) e ∙ lay-again [] [] c.args.buf.now (omega arith) ∙ sym e);
+      laid = sym (ap (λ (ts : List ℕ). lay_rows (rows_of ts) b₀) (reads_none c.args.places.now c.args.stride count) ∙ none_rows b₀ ∙ ap (lay_rows []) e ∙ lay-again [] [] c.args.buf.now (omega arith) ∙ sym e);
     }
 
-pub number-requires-clause-there : goal.number-requires-clause-there
-number-requires-clause-there c = omega (arith, c.in-Some.ensures.steps.2.2, c.loop-place.invariant.wide)
-
-pub number-requires-then-number-ne0-clause-there : goal.number-requires-then-number-ne0-clause-there
-number-requires-then-number-ne0-clause-there c = omega (arith, c.in-Some.ensures.steps.2.2, c.loop-place.invariant.wide)
+-- where a place lies
+pub overflow_mul-at : goal.overflow_mul-at
+overflow_mul-at c =
+    let b : Bytes = c.args.places.now in
+    let w : ℕ = c.args.stride in
+    let ends : (c.loop-i.i - 1) * w + w ≤ length b = omega (arith, step (c.loop-i.i - 1) (length b / w) w (omega arith), div-add-mod' (length b) w) in
+    omega (arith, ends, c.well_formed)
 
 pub add-requires : goal.add-requires
 add-requires c =
     let b : Bytes = c.args.places.now in
+    let w : ℕ = c.args.stride in
+    let count : ℕ = length b / w in
     let laid : Bytes = c.put_number.new.s in
-    let ts : List ℕ = passed c.loop-place.yielded in
-    let turn = YieldsList-turn (seats-reversed c.args.stride b (omega arith) {s = c.into_iter-place-iterator.result} (cc) (cc)) c.loop-place.yielded _ c.loop-place.yielded_by _ _ c.in-Some.place c.in-Some.is c.next.ensures.steps in
-    let long : 8 + 16 * suc (length ts) ≤ length laid = omega (arith, turn.0, passed-long c.loop-place.yielded, seats-many c.args.stride b) in
+    let i = c.loop-i.invariant in
+    let ts : List ℕ = reads_from b w count c.loop-i.i in
+    let fields : All (λ r. r < 256 ^ 8) ts = reads-fields b w count c.loop-i.i i.within (octets-of b (λ j. omega (arith, c.type_inv.places j))) c.requires.0 (omega (arith, div-add-mod' (length b) w)) in
+    let long : 8 + 16 * suc (length ts) ≤ length laid = omega (arith, reads-few b w count c.loop-i.i i.within) in
     let fits : length laid < 256 ^ 8 = omega (arith, c.well_formed) in
-    let i = c.loop-place.invariant in
-    (made-rowed laid ts c.number-then-number-ne0.result long fits i.fields c.loop-place.buf i.laid, made-fine laid ts c.number-then-number-ne0.result long fits i.fields c.loop-place.buf i.laid)
+    (made-rowed laid ts c.number-then-number-ne0.result long fits fields c.loop-i.buf i.laid, made-fine laid ts c.number-then-number-ne0.result long fits fields c.loop-i.buf i.laid)
 
-pub loop-place-preserved-then-number-ne0 : goal.loop-place-preserved-then-number-ne0
-loop-place-preserved-then-number-ne0 c =
+pub loop-i-preserved-then-number-ne0 : goal.loop-i-preserved-then-number-ne0
+loop-i-preserved-then-number-ne0 c =
     let b : Bytes = c.args.places.now in
+    let w : ℕ = c.args.stride in
+    let count : ℕ = length b / w in
+    let at : ℕ = (c.loop-i.i - 1) * w in
     let laid : Bytes = c.put_number.new.s in
-    let ts : List ℕ = passed c.loop-place.yielded in
-    let turn = YieldsList-turn (seats-reversed c.args.stride b (omega arith) {s = c.into_iter-place-iterator.result} (cc) (cc)) c.loop-place.yielded _ c.loop-place.yielded_by _ _ c.in-Some.place c.in-Some.is c.next.ensures.steps in
-    let long : 8 + 16 * suc (length ts) ≤ length laid = omega (arith, turn.0, passed-long c.loop-place.yielded, seats-many c.args.stride b) in
+    let i = c.loop-i.invariant in
+    let ts : List ℕ = reads_from b w count c.loop-i.i in
+    let t : ℕ = c.number-then-number-ne0.result in
+    let fields : All (λ r. r < 256 ^ 8) ts = reads-fields b w count c.loop-i.i i.within (octets-of b (λ j. omega (arith, c.type_inv.places j))) c.requires.0 (omega (arith, div-add-mod' (length b) w)) in
+    let long : 8 + 16 * suc (length ts) ≤ length laid = omega (arith, reads-few b w count c.loop-i.i i.within) in
     let fits : length laid < 256 ^ 8 = omega (arith, c.well_formed) in
-    let i = c.loop-place.invariant in
-    let t = c.number-then-number-ne0.result in
-    let r = passed-taken c.loop-place.yielded c.in-Some.place (λ e. c.if-number-ne0.true (c.number.ensures.value ∙ e)) ∙ ap (λ (n : ℕ). n ∷ ts) (sym c.number-then-number-ne0.ensures.value) in
-    let e : c.add.new.region ≡ lay_rows (rows_of (t ∷ ts)) laid = c.add.ensures ∙ made_more laid ts t long fits i.fields c.loop-place.buf i.laid in
+    let wide : 16 ≤ at + w - at = omega arith in
+    let r : reads_from b w count (c.loop-i.i - 1) ≡ t ∷ ts =
+    reads-taken b w count c.loop-i.i i.within (omega arith) (λ e. c.if-number-ne0.true (c.number.ensures.value ∙ tag-cut b at (at + w - at) wide ∙ e))
+    ∙ ap (λ (n : ℕ). n ∷ ts) (sym (c.number-then-number-ne0.ensures.value ∙ read-cut b at (at + w - at) wide)) in
     record {
-      wide = c.in-Some.ensures.steps.0 ∙ i.wide;
-      fields = subst (All (λ r. r < 256 ^ 8)) (sym r) (c.number-then-number-ne0.ensures.bound, i.fields);
+      within = omega (arith, i.within);
       long = c.add.auto.region ∙ i.long;
-      laid = e ∙ ap (λ (us : List ℕ). lay_rows (rows_of us) laid) (sym r);
+      laid = c.add.ensures ∙ made_more laid ts t long fits fields c.loop-i.buf i.laid ∙ ap (λ (us : List ℕ). lay_rows (rows_of us) laid) (sym r);
+    }
+
+pub loop-i-preserved : goal.loop-i-preserved
+loop-i-preserved c =
+    let b : Bytes = c.args.places.now in
+    let w : ℕ = c.args.stride in
+    let at : ℕ = (c.loop-i.i - 1) * w in
+    let i = c.loop-i.invariant in
+    let free = reads-free b w (length b / w) c.loop-i.i i.within (omega arith) (sym (c.number.ensures.value ∙ tag-cut b at (at + w - at) (omega arith)) ∙ c.if-number-ne0.false) in
+    record {
+      within = omega (arith, i.within);
+      long = i.long;
+      laid = i.laid ∙ ap (λ (us : List ℕ). lay_rows (rows_of us) c.put_number.new.s) (sym free);
     }
 
 pub returns : goal.returns
 returns c =
     let b : Bytes = c.args.places.now in
+    let w : ℕ = c.args.stride in
     let laid : Bytes = c.put_number.new.s in
     let e : laid ≡ lay_rows [] c.args.buf.now = c.put_number.ensures ∙ lay-zero c.args.buf.now in
-    let rs : List Row = rows_of (reads_in b 0 c.args.stride (length b / c.args.stride)) in
-    let all = YieldsList-end (seats-reversed c.args.stride b (omega arith) {s = c.into_iter-place-iterator.result} (cc) (cc)) c.loop-place.yielded _ c.loop-place.yielded_by _ _ c.in-None.is c.next.ensures.steps in
-    c.loop-place.invariant.laid ∙ ap (λ (us : List ℕ). lay_rows (rows_of us) laid) (passed-all c.args.stride b c.requires.0 c.loop-place.yielded all.0)
+    let rs : List Row = rows_of (reads_in b 0 w (length b / w)) in
+    c.loop-i.invariant.laid ∙ ap (λ (us : List ℕ). lay_rows (rows_of us) laid) (reads_all b w (length b / w) c.loop-i.i (omega arith))
     ∙ ap (lay_rows rs) e ∙ lay-again rs [] c.args.buf.now (omega arith)

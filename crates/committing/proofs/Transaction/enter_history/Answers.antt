@@ -14,42 +14,44 @@ use Rattle.committing.proofs.Transaction.enter_history.Goals as goal
 pub sets-writes-requires : goal.sets-writes-requires
 sets-writes-requires c = let L = held_lies c.requires.0 in omega arith
 
-pub list_at-size-requires : goal.list_at-size-requires
-list_at-size-requires c = writes-lie c.args.state.now (bytes_known _ (search rules)) c.args.self.shape c.args.self.place c.requires.0 _ (starts-are c.args.self.shape c.args.self.place _ c.sets-writes.ensures).1
+pub list_at-requires : goal.list_at-requires
+list_at-requires c = writes-lie c.args.state.now (bytes_known _ (search rules)) c.args.self.shape c.args.self.place c.requires.0 _ (starts-are c.args.self.shape c.args.self.place _ c.sets-writes.ensures).1
 
 pub list_at-end-requires : goal.list_at-end-requires
 list_at-end-requires c = history-lies c.args.state.now (bytes_known _ (search rules)) c.requires.0.sound c.args.self.shape c.requires.0.shape
 
-pub overflow_add-writes : goal.overflow_add-writes
-overflow_add-writes c = omega (arith, sets-inside c.args.state.now c.args.self.shape c.args.self.place _ c.requires.0 c.sets-writes.ensures)
-
-pub split_at_mut-front-requires : goal.split_at_mut-front-requires
-split_at_mut-front-requires c = omega (arith, sets-inside c.args.state.now c.args.self.shape c.args.self.place _ c.requires.0 c.sets-writes.ensures)
-
 pub overflow_add-start : goal.overflow_add-start
 overflow_add-start c = let L = held_lies c.requires.0 in omega arith
+
+pub overflow_add-from : goal.overflow_add-from
+overflow_add-from c = omega (arith, sets-inside c.args.state.now c.args.self.shape c.args.self.place _ c.requires.0 c.sets-writes.ensures)
+
+pub overflow_sub-from : goal.overflow_sub-from
+overflow_sub-from c =
+    let L = held_lies c.requires.0 in
+    omega (arith, sets-inside c.args.state.now c.args.self.shape c.args.self.place _ c.requires.0 c.sets-writes.ensures)
 
 pub slice_bounds-enter-count : goal.slice_bounds-enter-count
 slice_bounds-enter-count c =
     let L = held_lies c.requires.0 in
-    omega (arith, sets-inside c.args.state.now c.args.self.shape c.args.self.place _ c.requires.0 c.sets-writes.ensures, c.split_at_mut-front.ensures.front_len)
+    omega (arith, sets-inside c.args.state.now c.args.self.shape c.args.self.place _ c.requires.0 c.sets-writes.ensures)
 
 pub slice_bounds-enter-start : goal.slice_bounds-enter-start
 slice_bounds-enter-start c =
     let L = held_lies c.requires.0 in
-    omega (arith, sets-inside c.args.state.now c.args.self.shape c.args.self.place _ c.requires.0 c.sets-writes.ensures, c.split_at_mut-front.ensures.front_len)
+    omega (arith, sets-inside c.args.state.now c.args.self.shape c.args.self.place _ c.requires.0 c.sets-writes.ensures)
 
 pub enter-next-requires : goal.enter-next-requires
 enter-next-requires c =
     enter-ready c.args.state.now (bytes_known _ (search rules)) c.args.self.shape c.args.self.place c.requires.0 c.if-self.true c.args.number c.requires.1 _ (starts-are c.args.self.shape c.args.self.place _ c.sets-writes.ensures).1 _ c.cut-cut.ensures c.requires.2
-    c.list_at-end.result.now c.list_at-size.result.now c.split_at_mut-front.result.0.now c.split_at_mut-front.result.1.now c.list_at-end.ensures c.list_at-size.ensures c.split_at_mut-front.ensures.front c.split_at_mut-front.ensures.back
+    c.list_at-end.result.now c.list_at.result.now c.list_at-end.ensures c.list_at.ensures
 
 pub put_number-requires-clause-there : goal.put_number-requires-clause-there
 put_number-requires-clause-there c =
     let L = held_lies c.requires.0 in
     let long =
     written-long c.args.state.now (bytes_known _ (search rules)) c.args.self.shape c.args.self.place c.requires.0 c.if-self.true c.args.number c.requires.1 _ (starts-are c.args.self.shape c.args.self.place _ c.sets-writes.ensures).1 _ c.cut-cut.ensures c.requires.2
-    c.list_at-end.result.now c.list_at-size.result.now c.split_at_mut-front.result.0.now c.split_at_mut-front.result.1.now c.list_at-end.ensures c.list_at-size.ensures c.split_at_mut-front.ensures.front c.split_at_mut-front.ensures.back c.enter-next.new.room c.enter-next.ensures.1 in
+    c.list_at-end.result.now c.list_at.result.now c.list_at-end.ensures c.list_at.ensures c.enter-next.new.room c.enter-next.ensures.1 in
     omega (arith, long)
 
 pub returns-then-self : goal.returns-then-self
@@ -57,10 +59,10 @@ returns-then-self c =
     c.put_number.ensures
     ∙ ap (λ (t : Bytes). over t c.args.self.shape.history (big_endian 8 c.enter-next.result))
     (written c.args.state.now (bytes_known _ (search rules)) c.args.self.shape c.args.self.place c.requires.0 c.if-self.true c.args.number c.requires.1 _ (starts-are c.args.self.shape c.args.self.place _ c.sets-writes.ensures).1 _ c.cut-cut.ensures c.requires.2
-    c.list_at-end.result.now c.list_at-size.result.now c.split_at_mut-front.result.0.now c.split_at_mut-front.result.1.now c.list_at-end.ensures c.list_at-size.ensures c.split_at_mut-front.ensures.front c.split_at_mut-front.ensures.back c.enter-next.new.room c.enter-next.ensures.1)
+    c.list_at-end.result.now c.list_at.result.now c.list_at-end.ensures c.list_at.ensures c.enter-next.new.room c.enter-next.ensures.1)
     ∙ entered c.args.state.now (bytes_known _ (search rules)) c.args.self.shape c.args.self.place c.requires.0 c.if-self.true c.args.number c.requires.1 _ (starts-are c.args.self.shape c.args.self.place _ c.sets-writes.ensures).1 _ c.cut-cut.ensures c.requires.2 (omega arith) _
     (next-is c.args.state.now (bytes_known _ (search rules)) c.args.self.shape c.args.self.place c.requires.0 c.if-self.true c.args.number c.requires.1 _ (starts-are c.args.self.shape c.args.self.place _ c.sets-writes.ensures).1 _ c.cut-cut.ensures c.requires.2
-    c.list_at-end.result.now c.list_at-size.result.now c.split_at_mut-front.result.0.now c.split_at_mut-front.result.1.now c.list_at-end.ensures c.list_at-size.ensures c.split_at_mut-front.ensures.front c.split_at_mut-front.ensures.back _ c.enter-next.ensures.0)
+    c.list_at-end.result.now c.list_at.result.now c.list_at-end.ensures c.list_at.ensures _ c.enter-next.ensures.0)
 
 pub returns-else-self : goal.returns-else-self
 returns-else-self c = other-same c.args.state.now (bytes_known _ (search rules)) c.args.self.shape c.args.self.place c.requires.0 c.if-self.false

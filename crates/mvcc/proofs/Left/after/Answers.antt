@@ -18,14 +18,14 @@ returns-then-not-follows c =
       | then-not-follows-via-else-not-follows+else-clock-entry+then-not-rising w ↦ no-set l c.args.clock e (sym w.if-not-rising.ensures.set)
     ]
 
-pub returns-in_err-checked_sub : goal.returns-in_err-checked_sub
-returns-in_err-checked_sub c = c.from_residual.ensures ∙ too_many c.args.self c.args.clock (commit_of c.args.entry) c.in_err-checked_sub.ensures
+pub returns-in_err-entries : goal.returns-in_err-entries
+returns-in_err-entries c = c.from_residual.ensures ∙ too_many c.args.self c.args.clock (commit_of c.args.entry) c.in_err-entries.ensures
 
-pub returns-in_err-checked_sub-2 : goal.returns-in_err-checked_sub-2
-returns-in_err-checked_sub-2 c =
+pub returns-in_err-hashes : goal.returns-in_err-hashes
+returns-in_err-hashes c =
     let b = c.args.entry.hashes.now in
     let n = length-hashes (length b / 4) b in
-    c.from_residual-in_err-checked_sub-2.ensures ∙ too_large c.args.self c.args.clock (commit_of c.args.entry) (λ k. c.in_err-checked_sub-2.ensures (omega arith))
+    c.from_residual-in_err-hashes.ensures ∙ too_large c.args.self c.args.clock (commit_of c.args.entry) (λ k. c.in_err-hashes.ensures (omega arith))
 
 pub returns : goal.returns
 returns c =
@@ -34,7 +34,7 @@ returns c =
     let b = c.args.entry.hashes.now in
     let n = length-hashes (length b / 4) b in
     let f : MatchOption l.last (c.is_none_or-follows.result ≡ true) (λ n. c.is_none_or-follows.result ≡ ltb n e.number) = search rules in
-    let entries = c.in_ok-checked_sub.ensures in
-    let hashes = c.in_ok-checked_sub-2.ensures in
+    let entries = c.in_ok-entries.ensures in
+    let hashes = c.in_ok-hashes.ensures in
     ap₂ (λ (m k : ℕ). let x : Left = record { last = Some e.number; entries = m; hashes = k } in Some x) (omega arith) (omega arith)
     ∙ in-turn l c.args.clock e (sym (follow-test l c.args.clock e l.last _ f) ∙ c.if-not-follows.false) c.if-clock-entry.false (sym c.if-not-rising.ensures.set) (omega arith) (omega arith)
