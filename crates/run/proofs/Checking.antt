@@ -82,6 +82,11 @@ risen-told s p end q t false l fit o w e f = risen-not s p.ve end (version_in s 
 
 -- ---- the loop
 
+-- bytes that are no run have no tally
+pub no_run : (s : Bytes) → whole_run s ≡ false → None ≡ checked s
+unfolding checked
+no_run s e = sym (ap (λ (b : Bool). cond b (Some (tally_of (versions s))) None) e)
+
 -- the check of the bytes has come to the end of p
 pub record Checking (s : Bytes) (t : Tally) (p : Place) : Type 0 where
   pub low : p.ks ≤ p.ke
@@ -101,8 +106,7 @@ module _ (s : Bytes) (o : octets s ≡ true) where
 
   module _ (t : Tally) (p : Place) (going : Checking s t p) where
     pub check-wrong : rises_in (version_in s p) (part s p.ve (length s - p.ve)) ≡ false → None ≡ checked s
-    unfolding checked
-    check-wrong e = sym (ap (λ (b : Bool). cond b (Some (tally_of (versions s))) None) (going.rising ∙ e))
+    check-wrong e = no_run s (going.rising ∙ e)
 
     pub check_done : length s ≤ p.ve → Some t ≡ checked s
     unfolding checked

@@ -116,3 +116,6 @@ told-unmarked s e = sym (ap told (go (leb 3 (length s)) refl))
     go : (b : Bool) → leb 3 (length s) ≡ b → verdict s ≡ broken
     go true k = verdict-unmarked s (leb-true 3 (length s) k) (other (same_key (take 3 s) mark) refl)
     go false k = verdict-short s (leb-false 3 (length s) k)
+
+-- the same under a name that an attribute of the code can write
+pub ruleset unmarked = (told-unmarked)

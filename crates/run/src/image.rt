@@ -33,6 +33,7 @@ fn risen_at(records: &[u8], last: Place) -> Option<Place>
 
 // What is known of the records, if the bytes are the records of a run, strictly rising, with no empty key: one pass, in which
 // each key is compared with the one before it.
+#[tactic(auto, using(crate::proofs::Checking::no_run))]
 pub fn records_check(records: &[u8]) -> Option<Tally>
     ensures { result ≡ checked records.now }
 {
@@ -48,6 +49,7 @@ pub fn records_check(records: &[u8]) -> Option<Tally>
 
 // The verdict on an image, with the largest timestamp among its records: 'mark right, version not 1, rest unread' is foreign,
 // and what is cut, overlong, unsorted, with an empty key or a wrong mark is broken.
+#[tactic(auto, using(crate::proofs::Told::unmarked))]
 pub fn verdict(image: &[u8]) -> Result<u64, BadImage>
     ensures { result ≡ told (verdict image.now) }
 {

@@ -1,6 +1,7 @@
+-- The keys decide, and then the stamps. A tactic joins the two, so that it holds however the code hands the keys' answer on.
+use native.Mathlib.Omega.{arith}
 use mathlib.Core.Path.{ap, ◌∙◌}
 use Prim.Native.Nat.{compare}
-use Rattle.paper.specs.Lists.{then_by}
 use Rattle.raw.specs.Orders.{ordering}
 use Rattle.raw.proofs.Comparing.{ordering-then, compare-numbers}
 use Rattle.key.proofs.Placing.{by_parts}
@@ -10,7 +11,5 @@ pub returns : goal.returns
 returns c =
     let p = c.version_at-p.result in
     let t = ap ordering c.cmp.ensures ∙ compare-numbers c.args.stamp.time c.new.result.time ∙ ap (compare c.args.stamp.time) c.new.ensures in
-    ap ordering c.then.ensures
-    ∙ ordering-then c.compare.result c.cmp.result
-    ∙ ap (then_by (ordering c.compare.result)) t
-    ∙ by_parts c.args.s.now c.args.at p c.version_at-p.ensures c.args.key.now c.args.stamp (ordering c.compare.result) c.compare.ensures
+    let parts = by_parts c.args.s.now c.args.at p c.version_at-p.ensures c.args.key.now c.args.stamp (ordering c.compare.result) c.compare.ensures in
+    grind (arith, ordering-then, t, parts)

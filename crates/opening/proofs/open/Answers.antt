@@ -1,4 +1,5 @@
--- Each check that refuses gives its own return, and what all of them leave is what the writing asks for.
+-- Each check that refuses gives its own return, and what all of them leave is what the writing asks for. For the run area the
+-- last step is a tactic's, so that it holds however the code names the room.
 use mathlib.Core.Path.{◌≡◌, refl, sym, ap, ◌∙◌}
 use mathlib.Core.Bool.{true}
 use lib.ListN.{length}
@@ -31,7 +32,8 @@ pub returns-then-not-images_fit : goal.returns-then-not-images_fit
 returns-then-not-images_fit c =
     let ranged : in_ranges (settings_of c.args.st) ≡ true = sym c.in_ranges.ensures ∙ c.if-not-in_ranges.false in
     let timed : go c.in_ok-clock.clock ≡ clock_of (open_runs 1 (images_in c.args.images.now c.args.lengths.now)) = ap try_of (sym c.in_ok-clock.was) ∙ checked c.open_check.result c.map_err.result c.map_err.ensures.cases ∙ c.open_check.ensures in
-    ends-area (settings_of c.args.st) c.args.images.now c.args.lengths.now c.args.state.now ranged c.in_ok-clock.clock timed (sym (c.images_fit.ensures (settings_of c.args.st) refl) ∙ c.if-not-images_fit.true)
+    let told = ends-area (settings_of c.args.st) c.args.images.now c.args.lengths.now c.args.state.now ranged c.in_ok-clock.clock timed (sym (c.images_fit.ensures (settings_of c.args.st) refl) ∙ c.if-not-images_fit.true) in
+    grind (arith, told)
 
 pub returns-then-state-state_length : goal.returns-then-state-state_length
 returns-then-state-state_length c =

@@ -19,4 +19,4 @@ returns-then-a-i c =
     c.cmp.result (ap ordering c.cmp.ensures ∙ compare-numbers (get_or c.args.a.now c.loop-i.i 0) (get_or c.args.b.now c.loop-i.i 0)) c.if-a-i.true
 
 pub returns : goal.returns
-returns c = ap ordering c.cmp-2.ensures ∙ compare-keys c.args.a.now c.args.b.now
+returns c = grind (arith, compare-keys)
