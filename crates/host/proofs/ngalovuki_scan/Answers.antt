@@ -1,4 +1,6 @@
--- What the scan told is told by numbers; the store has filled the out buffers.
+-- What the scan told is told by numbers; the store has filled the out buffers. For the number the last step is a tactic's, so that the proof also holds
+-- where the code passes it through one more step.
+use native.Mathlib.Omega.{arith}
 use Rattle.reply.specs.Told.{scanned_told}
 use Rattle.reply.proofs.Numbers.{scanned-number}
 use Rattle.store.specs.Asked.{scan_of}
@@ -11,4 +13,5 @@ returns c =
     let asked = scan_of c.args.handle (bound_by c.args.low c.args.lo.now) (bound_by c.args.high c.args.hi.now) c.args.key_out.now c.args.value_out.now in
     let same = scan-by c.args.handle _ _ _ _ c.args.key_out.now c.args.value_out.now c.bound_by-from.ensures c.bound_by-upto.ensures in
     let told = rw same at c.scan.ensures in
-    (numbers_on_lem scanned_told scanned-number _ asked c.args.state.now _ _ c.args.reply.now _ told.0 c.tell.ensures, told.1, told.2)
+    let said = numbers_on_lem scanned_told scanned-number _ asked c.args.state.now _ _ c.args.reply.now _ told.0 c.tell.ensures in
+    (grind (arith, said), told.1, told.2)

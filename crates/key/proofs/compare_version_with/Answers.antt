@@ -1,4 +1,5 @@
--- The keys decide, and then the stamps. A tactic joins the two, so that it holds however the code hands the keys' answer on.
+-- The keys decide, and then the stamps. A tactic joins the two, so that the proof also holds where the code passes the keys' answer
+-- through one more step.
 use native.Mathlib.Omega.{arith}
 use mathlib.Core.Path.{ap, ◌∙◌}
 use Prim.Native.Nat.{compare}

@@ -1,4 +1,5 @@
--- What the search in the chunks finds is what it finds in the hashes. The last step is a tactic's, so that it holds however the code hands the find on.
+-- What the search in the chunks finds is what it finds in the hashes. The last step is a
+-- tactic's, so that the proof also holds where the code passes what was found through one more step.
 use Rattle.std.proofs.Common.{[], ap, ◌∙◌, rules, arith}
 use Rattle.std.proofs.lemmas.List.Sorted.{answers_always}
 use Rattle.paper.specs.Lists.{rises}

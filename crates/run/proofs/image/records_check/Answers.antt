@@ -1,17 +1,11 @@
 use native.Mathlib.Omega.{arith}
-use mathlib.Core.Path.{◌∙◌}
 use Rattle.raw.proofs.Octets.{octets-of}
-use Rattle.run.proofs.Checking.{check-start, check-wrong, check_done, check-fits, check-next}
+use Rattle.run.proofs.Checking.{check-start, check_done, check-fits, check-next}
 use Rattle.run.proofs.image.records_check.Goals as goal
 
 pub loop-last-init : goal.loop-last-init
 loop-last-init c =
     check-start c.args.records.now (octets-of c.args.records.now (λ i. omega (arith, c.type_inv.records i))) c.none-tally.result c.before_all-last.result c.none-tally.ensures c.before_all-last.ensures
-
-pub returns-in_err-last : goal.returns-in_err-last
-returns-in_err-last c =
-    c.from_residual.ensures
-    ∙ check-wrong c.args.records.now (octets-of c.args.records.now (λ i. omega (arith, c.type_inv.records i))) c.loop-last.tally c.loop-last.last c.loop-last.invariant c.in_err-last.ensures
 
 pub with_record-tally-requires : goal.with_record-tally-requires
 with_record-tally-requires c =
