@@ -1,4 +1,4 @@
--- The keys decide, and then the stamps. A tactic joins the two, so that the proof also holds where the code passes the keys' answer
+-- The keys decide, and then the stamps. A tactic joins the two, so that the proof can also hold where the code passes the keys' answer
 -- through one more step.
 use native.Mathlib.Omega.{arith}
 use mathlib.Core.Path.{ap, ◌∙◌}

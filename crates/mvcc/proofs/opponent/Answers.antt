@@ -1,5 +1,5 @@
 -- The first entry that is an opponent, and its own hashes may be looked for in the reads. The last
--- step is a tactic's, so that the proof also holds where the code passes what was found through one more step.
+-- step is a tactic's, so that the proof can also hold where the code passes what was found through one more step.
 use Rattle.std.proofs.Common.{refl, ◌∙◌, rules, arith}
 use Rattle.std.proofs.lemmas.Iterator.Consumers.{YieldsList-from_first}
 use Rattle.sets.specs.Sets.{set_hashes}

@@ -1,5 +1,5 @@
 -- What the search in the chunks finds is what it finds in the hashes. The last step is a
--- tactic's, so that the proof also holds where the code passes what was found through one more step.
+-- tactic's, so that the proof can also hold where the code passes what was found through one more step.
 use Rattle.std.proofs.Common.{[], ap, ◌∙◌, rules, arith}
 use Rattle.std.proofs.lemmas.List.Sorted.{answers_always}
 use Rattle.paper.specs.Lists.{rises}
