@@ -82,10 +82,13 @@ risen-told s p end q t false l fit o w e f = risen-not s p.ve end (version_in s 
 
 -- ---- the loop
 
--- bytes that are no run have no tally
-pub no_run : (s : Bytes) → whole_run s ≡ false → None ≡ checked s
+-- what the check answers, by whether the bytes are a run; if they are none, they have no tally
+checked-by : (s : Bytes) (b : Bool) → whole_run s ≡ b → cond b (Some (tally_of (versions s))) None ≡ checked s
 unfolding checked
-no_run s e = sym (ap (λ (b : Bool). cond b (Some (tally_of (versions s))) None) e)
+checked-by s b e = sym (ap (λ (b : Bool). cond b (Some (tally_of (versions s))) None) e)
+
+pub no_run : (s : Bytes) → whole_run s ≡ false → None ≡ checked s
+no_run s e = checked-by s false e
 
 -- the check of the bytes has come to the end of p
 pub record Checking (s : Bytes) (t : Tally) (p : Place) : Type 0 where
@@ -106,12 +109,11 @@ module _ (s : Bytes) (o : octets s ≡ true) where
 
   module _ (t : Tally) (p : Place) (going : Checking s t p) where
     pub check_done : length s ≤ p.ve → Some t ≡ checked s
-    unfolding checked
     check_done h =
         let z : length s - p.ve ≡ 0 = omega (arith, going.ahead) in
         let w : whole_run s ≡ true = going.rising ∙ ap (λ (n : ℕ). rises_in (version_in s p) (part s p.ve n)) z ∙ rises-nil (version_in s p) in
         let c : t ≡ tally_of (versions s) = sym (ap (λ (n : ℕ). onto t (versions (part s p.ve n))) z ∙ ap (onto t) versions-nil) ∙ going.counts in
-        ap Some c ∙ sym (ap (λ (b : Bool). cond b (Some (tally_of (versions s))) None) w)
+        ap Some c ∙ checked-by s true w
 
     module _ (q : Place) (risen : Risen s p (length s) (Some q)) where
       rest : versions (part s p.ve (length s - p.ve)) ≡ version_in s q ∷ versions (part s q.ve (length s - q.ve))

@@ -1,5 +1,5 @@
--- What the scan told is told by numbers; the store has filled the out buffers. For the number the last step is a tactic's, so that the proof also holds
--- where the code passes it through one more step.
+-- What the scan told is told by numbers; the store has filled the out buffers.
+-- For the number the last step is a tactic's, so that the proof can also hold where the code passes it through one more step.
 use native.Mathlib.Omega.{arith}
 use Rattle.reply.specs.Told.{scanned_told}
 use Rattle.reply.proofs.Numbers.{scanned-number}

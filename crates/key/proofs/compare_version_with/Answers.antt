@@ -1,5 +1,5 @@
--- The keys decide, and then the stamps. A tactic joins the two, so that the proof can also hold where the code passes the keys' answer
--- through one more step.
+-- The keys decide, and then the stamps.
+-- A tactic joins the two, so that the proof can also hold where the code passes the keys' answer through one more step.
 use native.Mathlib.Omega.{arith}
 use mathlib.Core.Path.{ap, ◌∙◌}
 use Prim.Native.Nat.{compare}

@@ -1,5 +1,5 @@
--- Each check that refuses gives its own return, and what all of them leave is what the writing asks for. For the run area the
--- last step is a tactic's, so that the proof can also hold where the code takes the room from a variable.
+-- Each check that refuses gives its own return, and what all of them leave is what the writing asks for.
+-- For the run area the last step is a tactic's, so that the proof can also hold where the code takes the room from a variable.
 use mathlib.Core.Path.{◌≡◌, refl, sym, ap, ◌∙◌}
 use mathlib.Core.Bool.{true}
 use lib.ListN.{length}
