@@ -110,7 +110,7 @@ impl Transaction {
             let end = list_at(state, self.shape.history).len();
             let start = self.shape.history + 8;
             let from = writes + 8 - start;
-            let next = mvcc::enter(&mut state[start..], cut, end, number, from, count);
+            let next = mvcc::enter_from(&mut state[start..], cut, end, number, from, count);
             raw::put_number::<8>(state, self.shape.history, next as u64);
         }
     }

@@ -5,7 +5,7 @@
 ghost use Rattle.std.specs.Prelude.{◌≡◌, true, MatchOption, [], ◌∷◌, ◌++◌, length, drop};
 ghost use Rattle.std.specs.Iterator.{YieldsFirstBy, item_count};
 ghost use Rattle.std.proofs.Math.Option.{none, some};
-ghost use Prim.Native.Nat.{◌+◌, ◌*◌, ◌-◌, ◌≤◌, compare};
+ghost use Prim.Native.Nat.{◌+◌, ◌*◌, ◌-◌, ◌%◌, ◌≤◌, compare};
 ghost use Rattle.paper.specs.Lists.{is_some, rises};
 ghost use Rattle.paper.specs.History.{Commit, make_commit, opponent};
 ghost use Rattle.paper.specs.Store.{hash_count};
@@ -190,9 +190,22 @@ pub fn fits(history: &[u8], count: usize, entries: usize, hashes: usize) -> bool
     kept.entries < entries && kept.hashes <= hashes && count <= hashes - kept.hashes
 }
 
-// Moves the entries from `cut` to `end` to the front of a room and writes a new one behind them, with the `count` hashes from `from`; tells how many bytes
-// the history then has. What stays and the hashes are moved within the one room, so they are told by their places in it.
-pub fn enter(
+// Moves the entries from `cut` to `end` to the front of a room and writes a new one behind them; tells how many bytes the history then has.
+// What stays moves within the one room, so `cut` and `end` are places in it.
+pub fn enter(room: &mut [u8], cut: usize, end: usize, number: u64, hashes: &[u8]) -> usize
+    requires { (cut ≤ end) × (end ≤ length room.old) × ((end - cut) + 16 + length hashes.now ≤ length room.old) × (length hashes.now % 4 ≡ 0) × (is_some (history_read (part room.old cut (end - cut))) ≡ true) }
+    ensures { (result ≡ length (history_bytes (history_in (part room.old cut (end - cut)) ++ (make_commit number (set_hashes hashes.now) ∷ [])))) × (room.new ≡ over room.old 0 (history_bytes (history_in (part room.old cut (end - cut)) ++ (make_commit number (set_hashes hashes.now) ∷ [])))) }
+{
+    let stays = end - cut;
+    raw::shift(room, cut, 0, stays);
+    raw::put_number::<8>(room, stays, number);
+    raw::put_number::<8>(room, stays + 8, hashes.len() as u64);
+    raw::copy_at(room, stays + 16, hashes);
+    stays + 16 + hashes.len()
+}
+
+// The same where the new entry's `count` hashes stand in the room themselves, from `from` on, behind all that is written.
+pub fn enter_from(
     room: &mut [u8],
     cut: usize,
     end: usize,
@@ -210,4 +223,39 @@ pub fn enter(
     raw::put_number::<8>(room, kept + 8, size as u64);
     raw::shift(room, from, kept + 16, size);
     kept + 16 + size
+}
+
+#[cfg(test)]
+mod tests {
+    use super::*;
+
+    // The history fills the room to its last byte, so the hashes can only come from elsewhere: an entry enters, one behind it, and one where the first leaves.
+    #[test]
+    fn entries_fill_the_room(rt: HostRuntime) {
+        let mut room = [255u8; 44];
+        let first = enter(&mut room, 0, 0, 5, b"\0\0\0\x07\0\0\x01\0");
+        assert_eq!(rt; first, 24);
+        assert!(rt; history_check(&room[..24], 5, 1, 2));
+        let second = enter(&mut room, 0, 24, 9, b"\0\0\0\x02");
+        assert_eq!(rt; second, 44);
+        assert_eq!(rt;
+            &room[..24],
+            b"\0\0\0\0\0\0\0\x05\0\0\0\0\0\0\0\x08\0\0\0\x07\0\0\x01\0".as_slice()
+        );
+        assert_eq!(rt;
+            &room[24..],
+            b"\0\0\0\0\0\0\0\x09\0\0\0\0\0\0\0\x04\0\0\0\x02".as_slice()
+        );
+        assert!(rt; history_check(&room[24..], 9, 1, 1));
+        let third = enter(&mut room, 24, 44, 12, b"\0\0\0\x03");
+        assert_eq!(rt; third, 40);
+        assert_eq!(rt;
+            &room[..20],
+            b"\0\0\0\0\0\0\0\x09\0\0\0\0\0\0\0\x04\0\0\0\x02".as_slice()
+        );
+        assert_eq!(rt;
+            &room[20..40],
+            b"\0\0\0\0\0\0\0\x0c\0\0\0\0\0\0\0\x04\0\0\0\x03".as_slice()
+        );
+    }
 }

@@ -108,6 +108,9 @@ module _ (s : Bytes) (o : octets s ≡ true) where
       rising = whole-rises s o ∙ ap (rises_in no_version) (sym (part-rest s 0))
 
   module _ (t : Tally) (p : Place) (going : Checking s t p) where
+    pub check-wrong : rises_in (version_in s p) (part s p.ve (length s - p.ve)) ≡ false → None ≡ checked s
+    check-wrong e = no_run s (going.rising ∙ e)
+
     pub check_done : length s ≤ p.ve → Some t ≡ checked s
     check_done h =
         let z : length s - p.ve ≡ 0 = omega (arith, going.ahead) in

@@ -1,6 +1,6 @@
 -- Four writes side by side: what stays, the number, the size, the hashes.
-use Rattle.std.proofs.Common.{◌≡◌, length, ap, refl, sym, ◌∙◌, arith}
-use Prim.Native.Nat.{ℕ, ◌+◌, ◌*◌, ◌-◌, ◌%◌}
+use Rattle.std.proofs.Common.{length, ap, sym, ◌∙◌, arith}
+use Prim.Native.Nat.{ℕ, ◌+◌, ◌-◌}
 use Rattle.paper.specs.Image.{big_endian}
 use Rattle.paper.specs.Keys.{Bytes}
 use Rattle.raw.specs.Bytes.{part, over}
@@ -12,20 +12,16 @@ use Rattle.mvcc.proofs.enter.Goals as goal
 pub returns : goal.returns
 returns c =
     let room : Bytes = c.args.room.now in
+    let hs : Bytes = c.args.hashes.now in
     let kept : ℕ = c.args.end - c.args.cut in
-    let size : ℕ = 4 * c.args.count in
     let stays : Bytes = part room c.args.cut kept in
-    let hs : Bytes = part room c.args.from size in
-    let y = octets-of room (λ i. omega (arith, c.slice_known-1.given i)) in
-    let o = octets-part room c.args.cut kept y in
-    let p = octets-part room c.args.from size y in
-    let n = length_part room c.args.cut kept (omega arith) in
-    let m = length_part room c.args.from size (omega arith) in
-    let whole : length hs % 4 ≡ 0 = omega (arith, m) in (
-      omega (arith, after-long stays o c.requires.4 c.args.number hs p whole, n, m),
-      c.shift-2.ensures
-          ∙ ap (λ (t : Bytes). over t (kept + 16) (part t c.args.from size))
+    let o = octets-part room c.args.cut kept (octets-of room (λ i. omega (arith, c.slice_known-1.given i))) in
+    let p = octets-of hs (λ i. omega (arith, c.type_inv.hashes i)) in
+    let n = length_part room c.args.cut kept (omega arith) in (
+      omega (arith, after-long stays o c.requires.4 c.args.number hs p c.requires.3),
+      c.copy_at.ensures
+          ∙ ap (λ (t : Bytes). over t (kept + 16) hs)
           (c.put_number-2.ensures
-          ∙ ap (λ (t : Bytes). over t (kept + 8) (big_endian 8 size)) (c.put_number.ensures ∙ ap (λ (t : Bytes). over t kept (big_endian 8 c.args.number)) c.shift.ensures))
-          ∙ entering stays o c.requires.4 c.args.number hs p whole room kept c.args.from size (sym n) (sym m) c.requires.2 c.requires.3 refl,
+          ∙ ap (λ (t : Bytes). over t (kept + 8) (big_endian 8 (length hs))) (c.put_number.ensures ∙ ap (λ (t : Bytes). over t kept (big_endian 8 c.args.number)) c.shift.ensures))
+          ∙ entering stays o c.requires.4 c.args.number hs p c.requires.3 room kept (sym n) (omega arith),
     )

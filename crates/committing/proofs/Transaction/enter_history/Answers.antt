@@ -31,18 +31,18 @@ overflow_sub-from c =
     let L = held_lies c.requires.0 in
     omega (arith, sets-inside c.args.state.now c.args.self.shape c.args.self.place _ c.requires.0 c.sets-writes.ensures)
 
-pub slice_bounds-enter-count : goal.slice_bounds-enter-count
-slice_bounds-enter-count c =
+pub slice_bounds-enter_from-count : goal.slice_bounds-enter_from-count
+slice_bounds-enter_from-count c =
     let L = held_lies c.requires.0 in
     omega (arith, sets-inside c.args.state.now c.args.self.shape c.args.self.place _ c.requires.0 c.sets-writes.ensures)
 
-pub slice_bounds-enter-start : goal.slice_bounds-enter-start
-slice_bounds-enter-start c =
+pub slice_bounds-enter_from-start : goal.slice_bounds-enter_from-start
+slice_bounds-enter_from-start c =
     let L = held_lies c.requires.0 in
     omega (arith, sets-inside c.args.state.now c.args.self.shape c.args.self.place _ c.requires.0 c.sets-writes.ensures)
 
-pub enter-next-requires : goal.enter-next-requires
-enter-next-requires c =
+pub enter_from-next-requires : goal.enter_from-next-requires
+enter_from-next-requires c =
     enter-ready c.args.state.now (bytes_known _ (search rules)) c.args.self.shape c.args.self.place c.requires.0 c.if-self.true c.args.number c.requires.1 _ (starts-are c.args.self.shape c.args.self.place _ c.sets-writes.ensures).1 _ c.cut-cut.ensures c.requires.2
     c.list_at-end.result.now c.list_at.result.now c.list_at-end.ensures c.list_at.ensures
 
@@ -51,18 +51,18 @@ put_number-requires-clause-there c =
     let L = held_lies c.requires.0 in
     let long =
     written-long c.args.state.now (bytes_known _ (search rules)) c.args.self.shape c.args.self.place c.requires.0 c.if-self.true c.args.number c.requires.1 _ (starts-are c.args.self.shape c.args.self.place _ c.sets-writes.ensures).1 _ c.cut-cut.ensures c.requires.2
-    c.list_at-end.result.now c.list_at.result.now c.list_at-end.ensures c.list_at.ensures c.enter-next.new.room c.enter-next.ensures.1 in
+    c.list_at-end.result.now c.list_at.result.now c.list_at-end.ensures c.list_at.ensures c.enter_from-next.new.room c.enter_from-next.ensures.1 in
     omega (arith, long)
 
 pub returns-then-self : goal.returns-then-self
 returns-then-self c =
     c.put_number.ensures
-    ∙ ap (λ (t : Bytes). over t c.args.self.shape.history (big_endian 8 c.enter-next.result))
+    ∙ ap (λ (t : Bytes). over t c.args.self.shape.history (big_endian 8 c.enter_from-next.result))
     (written c.args.state.now (bytes_known _ (search rules)) c.args.self.shape c.args.self.place c.requires.0 c.if-self.true c.args.number c.requires.1 _ (starts-are c.args.self.shape c.args.self.place _ c.sets-writes.ensures).1 _ c.cut-cut.ensures c.requires.2
-    c.list_at-end.result.now c.list_at.result.now c.list_at-end.ensures c.list_at.ensures c.enter-next.new.room c.enter-next.ensures.1)
+    c.list_at-end.result.now c.list_at.result.now c.list_at-end.ensures c.list_at.ensures c.enter_from-next.new.room c.enter_from-next.ensures.1)
     ∙ entered c.args.state.now (bytes_known _ (search rules)) c.args.self.shape c.args.self.place c.requires.0 c.if-self.true c.args.number c.requires.1 _ (starts-are c.args.self.shape c.args.self.place _ c.sets-writes.ensures).1 _ c.cut-cut.ensures c.requires.2 (omega arith) _
     (next-is c.args.state.now (bytes_known _ (search rules)) c.args.self.shape c.args.self.place c.requires.0 c.if-self.true c.args.number c.requires.1 _ (starts-are c.args.self.shape c.args.self.place _ c.sets-writes.ensures).1 _ c.cut-cut.ensures c.requires.2
-    c.list_at-end.result.now c.list_at.result.now c.list_at-end.ensures c.list_at.ensures _ c.enter-next.ensures.0)
+    c.list_at-end.result.now c.list_at.result.now c.list_at-end.ensures c.list_at.ensures _ c.enter_from-next.ensures.0)
 
 pub returns-else-self : goal.returns-else-self
 returns-else-self c = other-same c.args.state.now (bytes_known _ (search rules)) c.args.self.shape c.args.self.place c.requires.0 c.if-self.false
