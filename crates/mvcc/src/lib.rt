@@ -232,30 +232,18 @@ mod tests {
     // The history fills the room to its last byte, so the hashes can only come from elsewhere: an entry enters, one behind it, and one where the first leaves.
     #[test]
     fn entries_fill_the_room(rt: HostRuntime) {
+        let of_5 = b"\0\0\0\0\0\0\0\x05\0\0\0\0\0\0\0\x08\0\0\0\x07\0\0\x01\0";
+        let of_9 = b"\0\0\0\0\0\0\0\x09\0\0\0\0\0\0\0\x04\0\0\0\x02";
+        let of_12 = b"\0\0\0\0\0\0\0\x0c\0\0\0\0\0\0\0\x04\0\0\0\x03";
         let mut room = [255u8; 44];
-        let first = enter(&mut room, 0, 0, 5, b"\0\0\0\x07\0\0\x01\0");
-        assert_eq!(rt; first, 24);
+        assert_eq!(rt; enter(&mut room, 0, 0, 5, b"\0\0\0\x07\0\0\x01\0"), 24);
         assert!(rt; history_check(&room[..24], 5, 1, 2));
-        let second = enter(&mut room, 0, 24, 9, b"\0\0\0\x02");
-        assert_eq!(rt; second, 44);
-        assert_eq!(rt;
-            &room[..24],
-            b"\0\0\0\0\0\0\0\x05\0\0\0\0\0\0\0\x08\0\0\0\x07\0\0\x01\0".as_slice()
-        );
-        assert_eq!(rt;
-            &room[24..],
-            b"\0\0\0\0\0\0\0\x09\0\0\0\0\0\0\0\x04\0\0\0\x02".as_slice()
-        );
+        assert_eq!(rt; enter(&mut room, 0, 24, 9, b"\0\0\0\x02"), 44);
+        assert_eq!(rt; &room[..24], of_5.as_slice());
+        assert_eq!(rt; &room[24..], of_9.as_slice());
         assert!(rt; history_check(&room[24..], 9, 1, 1));
-        let third = enter(&mut room, 24, 44, 12, b"\0\0\0\x03");
-        assert_eq!(rt; third, 40);
-        assert_eq!(rt;
-            &room[..20],
-            b"\0\0\0\0\0\0\0\x09\0\0\0\0\0\0\0\x04\0\0\0\x02".as_slice()
-        );
-        assert_eq!(rt;
-            &room[20..40],
-            b"\0\0\0\0\0\0\0\x0c\0\0\0\0\0\0\0\x04\0\0\0\x03".as_slice()
-        );
+        assert_eq!(rt; enter(&mut room, 24, 44, 12, b"\0\0\0\x03"), 40);
+        assert_eq!(rt; &room[..20], of_9.as_slice());
+        assert_eq!(rt; &room[20..40], of_12.as_slice());
     }
 }

@@ -4,5 +4,5 @@ use Rattle.paper.specs.Lists.{is_some}
 use Rattle.mvcc.proofs.Reading.{history-empty}
 use Rattle.mvcc.proofs.tests.entries_fill_the_room.Goals as goal
 
-pub enter-first-requires : goal.enter-first-requires
-enter-first-requires g c = (omega arith, omega arith, omega arith, refl, ap is_some history-empty)
+pub enter-requires : goal.enter-requires
+enter-requires g c = (omega arith, omega arith, omega arith, refl, ap is_some history-empty)
