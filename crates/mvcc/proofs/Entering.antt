@@ -22,6 +22,10 @@ use Rattle.mvcc.specs.Histories.{history_read, history_in, history_bytes}
 use Rattle.mvcc.proofs.Commits.{commit-put, history-last}
 use Rattle.mvcc.proofs.Reading.{bytes-of}
 
+-- how long three pieces are together
+three-long : (x y z : Bytes) → length (x ++ (y ++ z)) ≡ length x + length y + length z
+three-long x y z = simp length-append (omega arith)
+
 -- three writes side by side, from the start on
 three-writes : (l x y z : Bytes) → length x + length y + length z ≤ length l → over (over (over l 0 x) (length x) y) (length x + length y) z ≡ over l 0 (x ++ (y ++ z))
 three-writes l x y z h =
@@ -35,8 +39,7 @@ three-writes l x y z h =
 four-writes : (l x y z w : Bytes) → length x + length y + length z + length w ≤ length l
     → over (over (over (over l 0 x) (length x) y) (length x + length y) z) (length x + length y + length z) w ≡ over l 0 (x ++ (y ++ (z ++ w)))
 four-writes l x y z w h =
-    let e : length (x ++ (y ++ z)) ≡ length x + (length y + length z) = length-append x (y ++ z) ∙ ap (λ (m : ℕ). length x + m) (length-append y z) in
-    let i : length x + length y + length z ≡ 0 + length (x ++ (y ++ z)) = omega arith in
+    let i : length x + length y + length z ≡ 0 + length (x ++ (y ++ z)) = omega (arith, three-long x y z) in
     ap (λ (t : Bytes). over t (length x + length y + length z) w) (three-writes l x y z (omega arith))
     ∙ over-after l 0 (x ++ (y ++ z)) (omega arith) (length x + length y + length z) w i
     ∙ ap (over l 0) (append_assoc x (y ++ z) w ∙ ap (λ (t : Bytes). x ++ t) (append_assoc y z w))
@@ -47,8 +50,7 @@ writes-from : (l x y z : Bytes) (from n : ℕ) → length x + length y + length 
     ≡ over l 0 (x ++ (y ++ (z ++ part l from n)))
 writes-from l x y z from n h k =
     let three : Bytes = over (over (over l 0 x) (length x) y) (length x + length y) z in
-    let e : length (x ++ (y ++ z)) ≡ length x + (length y + length z) = length-append x (y ++ z) ∙ ap (λ (m : ℕ). length x + m) (length-append y z) in
-    let q : part three from n ≡ part l from n = ap (λ (t : Bytes). part t from n) (three-writes l x y z (omega arith)) ∙ part-over-after l 0 (x ++ (y ++ z)) (omega arith) from n (omega arith) in
+    let q : part three from n ≡ part l from n = ap (λ (t : Bytes). part t from n) (three-writes l x y z (omega arith)) ∙ part-over-after l 0 (x ++ (y ++ z)) (omega (arith, three-long x y z)) from n (omega (arith, three-long x y z)) in
     ap (over three (length x + length y + length z)) q ∙ four-writes l x y z (part l from n) (omega (arith, length_part l from n k))
 
 -- the bytes of what stays, which are some bytes that read, and of the new entry

@@ -108,6 +108,7 @@ module _ (s : Bytes) (o : octets s ≡ true) where
       rising = whole-rises s o ∙ ap (rises_in no_version) (sym (part-rest s 0))
 
   module _ (t : Tally) (p : Place) (going : Checking s t p) where
+    -- what is left does not rise: the bytes are no run
     pub check-wrong : rises_in (version_in s p) (part s p.ve (length s - p.ve)) ≡ false → None ≡ checked s
     check-wrong e = no_run s (going.rising ∙ e)
 

@@ -1,5 +1,6 @@
 -- Four writes side by side: what stays, the number, the size, the hashes.
-use Rattle.std.proofs.Common.{length, ap, sym, ◌∙◌, arith}
+use Rattle.std.proofs.Common.{length, ap, sym, ◌∙◌, arith, rules, Fits, w8}
+use lib.ListN.{get_or}
 use Prim.Native.Nat.{ℕ, ◌+◌, ◌-◌}
 use Rattle.paper.specs.Image.{big_endian}
 use Rattle.paper.specs.Keys.{Bytes}
@@ -15,7 +16,8 @@ returns c =
     let hs : Bytes = c.args.hashes.now in
     let kept : ℕ = c.args.end - c.args.cut in
     let stays : Bytes = part room c.args.cut kept in
-    let o = octets-part room c.args.cut kept (octets-of room (λ i. omega (arith, c.slice_known-1.given i))) in
+    let fits : (i : ℕ) → Fits w8 (get_or room i 0) = search rules in
+    let o = octets-part room c.args.cut kept (octets-of room (λ i. omega (arith, fits i))) in
     let p = octets-of hs (λ i. omega (arith, c.type_inv.hashes i)) in
     let n = length_part room c.args.cut kept (omega arith) in (
       omega (arith, after-long stays o c.requires.4 c.args.number hs p c.requires.3),

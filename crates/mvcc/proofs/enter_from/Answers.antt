@@ -1,5 +1,6 @@
 -- Four writes side by side: what stays, the number, the size, the hashes.
-use Rattle.std.proofs.Common.{◌≡◌, length, ap, refl, sym, ◌∙◌, arith}
+use Rattle.std.proofs.Common.{◌≡◌, length, ap, refl, sym, ◌∙◌, arith, rules, Fits, w8}
+use lib.ListN.{get_or}
 use Prim.Native.Nat.{ℕ, ◌+◌, ◌*◌, ◌-◌, ◌%◌}
 use Rattle.paper.specs.Image.{big_endian}
 use Rattle.paper.specs.Keys.{Bytes}
@@ -16,7 +17,8 @@ returns c =
     let size : ℕ = 4 * c.args.count in
     let stays : Bytes = part room c.args.cut kept in
     let hs : Bytes = part room c.args.from size in
-    let y = octets-of room (λ i. omega (arith, c.slice_known-1.given i)) in
+    let fits : (i : ℕ) → Fits w8 (get_or room i 0) = search rules in
+    let y = octets-of room (λ i. omega (arith, fits i)) in
     let o = octets-part room c.args.cut kept y in
     let p = octets-part room c.args.from size y in
     let n = length_part room c.args.cut kept (omega arith) in
